@@ -1,11 +1,21 @@
 -- The bands of a job.
-use Rattle.std.proofs.Common.{ℕ, ◌<◌, List, All}
-use Rattle.iiif_planner.specs.Bands.{AreBands}
-use Rattle.iiif_planner.specs.BandLaws.{BandsAreLow}
+use Rattle.std.proofs.Common.{ℕ, ◌<◌, min, sym, subst, arith}
+use Rattle.std.specs.Int.{div_ceil}
+use Rattle.iiif_pixel.specs.Geometry.{LiesIn}
+use Rattle.iiif_pixel.specs.TurnPlaces.{turned_dim}
+use Rattle.iiif_pixel.specs.declared.geometry.Rect.{Rect}
+use Rattle.iiif_planner.specs.Bands.{IsBand}
 use Rattle.iiif_planner.specs.declared.banding.Band.{Band}
+use Rattle.iiif_planner.proofs.Meeting.{last_met}
 use Rattle.iiif_assemble.specs.Jobs.{IsBandOf}
 use Rattle.iiif_assemble.specs.declared.job.Job.{Job}
 
-pub bands_of : (j : Job) (rows : ℕ) (bs : List Band) → 0 < rows → BandsAreLow → AreBands j.resolved j.plan rows bs → All (IsBandOf j) bs
-bands_of j rows bs some low are = λ i d l. record
-    { inside = (low j.resolved j.plan rows bs some are i d l).inside; items = are.items i d l }
+pub band_of : (j : Job) (rows i : ℕ) (b : Band) → 0 < rows → i < div_ceil (turned_dim j.resolved.turn j.resolved.size).h rows →
+    IsBand j.resolved j.plan rows i b → IsBandOf j b
+band_of j rows i b some within is =
+    let d = turned_dim j.resolved.turn j.resolved.size in
+    let above = last_met rows d.h i some within in
+    record {
+      inside = subst (λ (r : Rect). LiesIn r d) (sym is.rect) (record { columns = omega arith; rows = omega (arith, above) });
+      items = is.items;
+    }

@@ -12,3 +12,4 @@ pub mod GrowLemmas
 pub mod KeptLemmas
 pub mod TileLemmas
 pub mod PartLemmas
+pub mod ToldLemmas

@@ -1,5 +1,5 @@
 -- A tile that is an image as it stands.
-use Rattle.std.proofs.Common.{◌≡◌, ℕ, ◌+◌, ◌<◌, ◌⊎◌, inl, inr, List, [], ◌∷◌, ◌++◌, All, false, Option, Some, None, IfSome, length, get_or}
+use Rattle.std.proofs.Common.{◌≡◌, ℕ, ◌+◌, ◌<◌, ◌⊎◌, inl, inr, List, [], ◌∷◌, ◌++◌, All, false, length, get_or}
 use Rattle.std.proofs.Common.{map, refl, sym, subst, ap, ◌∙◌, arith}
 use Rattle.std.proofs.lemmas.List.{map-append}
 use Rattle.std.proofs.lemmas.List.Elements.{All-weaker}
@@ -109,11 +109,6 @@ tile_image crops law j means k v job itself kept of_name shape meant =
           ∙ ap (crop p) (sym itself.region)
           ∙ image_itself crops law shows j k job itself kept has source;
     }
-
--- what holds of the value where there is one
-pub if_some : {A : Type 0} (o : Option A) (F : A → Type 0) → ((v : A) → o ≡ Some v → F v) → IfSome o F
-if_some (Some v) F f = f v refl
-if_some None F f = tt
 
 -- the last of the values of a plan of one tile is that tile's
 pub last_value : {A : Type 0} (value : A → TileVal) (means : TileKey → TileVal → Type 0) (keys : List TileKey) (items : List ℕ)

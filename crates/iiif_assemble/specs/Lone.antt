@@ -1,5 +1,5 @@
 -- Images that are a tile as it stands.
-use Rattle.std.specs.Prelude.{◌≡◌, ℕ, ◌⊎◌, false}
+use Rattle.std.specs.Prelude.{◌≡◌, ℕ, ◌⊎◌, [], ◌∷◌, false}
 use Rattle.iiif_pixel.specs.Geometry.{channels_of, top_of}
 use Rattle.iiif_pixel.specs.Picture.{Picture, dim_of}
 use Rattle.iiif_pixel.specs.TurnPlaces.{turned_dim}
@@ -26,6 +26,12 @@ pub record IsTileItself (j : Job) (k : TileKey) : Type 0 where
   pub quarters : j.resolved.turn.quarters ≡ 0
   pub mirror : j.resolved.turn.mirror ≡ false
   pub keeps : (j.resolved.quality ≡ quality.Default) ⊎ (j.resolved.quality ≡ quality.Color)
+
+-- a plan is of this tile alone, as it stands
+abbrev pub IsCopyOf : Plan → TileKey → Type 0
+IsCopyOf (Copy keys) k = keys.items ≡ k ∷ []
+IsCopyOf (Grow keys) k = ⊥
+IsCopyOf (Sum keys) k = ⊥
 
 -- A picture of the sides, the channels and the depth of a job's image; and that image itself where what is answered for tiles is
 -- what they mean.

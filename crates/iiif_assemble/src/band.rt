@@ -14,13 +14,13 @@ ghost use Rattle.iiif_assemble.specs.Jobs.{TilesAreMeant, TilesServe};
 ghost use Rattle.iiif_assemble.specs.Code.{count_of, IsPictureOf, IsWithin, ListsMetItems};
 ghost use Rattle.iiif_assemble.specs.Faults.{IsBandFault, IsPlanFault};
 
+use crate::context::RenderContext;
 use crate::finishing::count_of;
 use crate::growing::grow;
 use crate::items::Items;
 use crate::job::{Job, Made};
 use crate::merging::merge_sums;
 use crate::pasting::paste;
-use crate::workshop::Workshop;
 use iiif_area::laws::same_sides_change_nothing;
 use iiif_keys::{Fault, SumKey, SumVal, TileKey, TileVal};
 use iiif_pixel::laws::{bands_follow, quality_of_crop, whole_stays_whole};
@@ -36,7 +36,7 @@ fn scale_part<
     P: Send,
     R: Threads + Wait + Sync,
 >(
-    shop: &Workshop<'_, A, B, R>,
+    context: &RenderContext<'_, A, B, R>,
     passes: &mut [P],
     job: &Job,
     items: &[usize],
@@ -46,25 +46,25 @@ fn scale_part<
     requires job { IsJob job.now }
     requires inside { LiesIn from job.now.resolved.size }
     requires lists { ListsMetItems job.now.resolved from job.now.plan items.now }
-    requires tiles { TilesServe job.now (A.fits shop.now.tiles.now) (A.means shop.now.tiles.now) }
-    requires sums { SumsServe job.now (B.fits shop.now.sums.now) (B.means shop.now.sums.now) }
+    requires tiles { TilesServe job.now (A.fits context.now.tiles.now) (A.means context.now.tiles.now) }
+    requires sums { SumsServe job.now (B.fits context.now.sums.now) (B.means context.now.sums.now) }
     ensures image { IfOk result (λ m. (shows : Pictures) (p : Picture) → IsPictureOf shows job.now p
-        → TilesAreMeant shows job.now (A.means shop.now.tiles.now) → SumsAreMeant shows job.now (B.means shop.now.sums.now)
+        → TilesAreMeant shows job.now (A.means context.now.tiles.now) → SumsAreMeant shows job.now (B.means context.now.sums.now)
         → m.raster ≡ crop (scale (crop p job.now.resolved.rect) job.now.resolved.size) from) }
     ensures sides { IfOk result (λ m. dim_of m.raster ≡ sides_of from) }
     ensures channels { IfOk result (λ m. m.raster.channels ≡ channels_of job.now.shape.kind) }
     ensures top { IfOk result (λ m. m.raster.top ≡ top_of job.now.shape.depth) }
     ensures held { IfOk result (λ m. IsWithin (count_of m.raster) m.held) }
-    ensures fault { IfErr result (IsBandFault (A.means shop.now.tiles.now) (A.failed shop.now.tiles.now)
-        (B.means shop.now.sums.now) (B.failed shop.now.sums.now) job.now.plan items.now) }
+    ensures fault { IfErr result (IsBandFault (A.means context.now.tiles.now) (A.failed context.now.tiles.now)
+        (B.means context.now.sums.now) (B.failed context.now.sums.now) job.now.plan items.now) }
 {
     // Laws of scaling and of pictures.
     same_sides_change_nothing();
     whole_stays_whole();
     match &job.plan {
-        Plan::Copy(keys) => paste(shop, passes, job, keys, items, from),
-        Plan::Grow(keys) => grow(shop, passes, job, keys, items, from),
-        Plan::Sum(keys) => merge_sums(shop, passes, job, keys, items, from),
+        Plan::Copy(keys) => paste(context, passes, job, keys, items, from),
+        Plan::Grow(keys) => grow(context, passes, job, keys, items, from),
+        Plan::Sum(keys) => merge_sums(context, passes, job, keys, items, from),
     }
 }
 
@@ -117,26 +117,32 @@ pub fn assemble_band<
     B: Items<SumKey, SumVal, P, R> + Sync,
     P: Send,
     R: Threads + Wait + Sync,
->(shop: &Workshop<'_, A, B, R>, passes: &mut [P], job: &Job, band: &Band) -> Result<Made, Fault>
+>(
+    context: &RenderContext<'_, A, B, R>,
+    passes: &mut [P],
+    job: &Job,
+    band: &Band,
+) -> Result<Made, Fault>
     requires some { 0 < length passes.old }
     requires job { IsJob job.now }
     requires band { IsBandOf job.now band.now }
-    requires tiles { TilesServe job.now (A.fits shop.now.tiles.now) (A.means shop.now.tiles.now) }
-    requires sums { SumsServe job.now (B.fits shop.now.sums.now) (B.means shop.now.sums.now) }
-    ensures image { IfOk result (λ m. (shows : Pictures) → IsShown shows job.now (A.means shop.now.tiles.now) (B.means shop.now.sums.now)
+    requires tiles { TilesServe job.now (A.fits context.now.tiles.now) (A.means context.now.tiles.now) }
+    requires sums { SumsServe job.now (B.fits context.now.sums.now) (B.means context.now.sums.now) }
+    ensures image { IfOk result (λ m. (shows : Pictures)
+        → IsShown shows job.now (A.means context.now.tiles.now) (B.means context.now.sums.now)
         → m.raster ≡ crop (resolved_image (named shows job.now.name) job.now.resolved) band.now.rect) }
     ensures sides { IfOk result (λ m. dim_of m.raster ≡ sides_of band.now.rect) }
     ensures channels { IfOk result (λ m. m.raster.channels ≡ channels_in job.now.resolved.quality (channels_of job.now.shape.kind)) }
     ensures top { IfOk result (λ m. m.raster.top ≡ top_in job.now.resolved.quality (top_of job.now.shape.depth)) }
     ensures held { IfOk result (λ m. IsHeldFor (sides_of band.now.rect) (channels_of job.now.shape.kind) m.held) }
-    ensures fault { IfErr result (IsBandFault (A.means shop.now.tiles.now) (A.failed shop.now.tiles.now)
-        (B.means shop.now.sums.now) (B.failed shop.now.sums.now) job.now.plan band.now.items.items) }
+    ensures fault { IfErr result (IsBandFault (A.means context.now.tiles.now) (A.failed context.now.tiles.now)
+        (B.means context.now.sums.now) (B.failed context.now.sums.now) job.now.plan band.now.items.items) }
 {
     // A law of qualities.
     quality_of_crop();
     let resolved = &job.resolved;
     let from = unturn_rect(resolved.turn, resolved.size, band.rect);
-    match scale_part(shop, passes, job, &band.items, from) {
+    match scale_part(context, passes, job, &band.items, from) {
         Ok(scaled) => match apply_turn(scaled, resolved.turn) {
             Ok(turned) => apply_quality(turned, resolved.quality),
             Err(fault) => Err(fault),
@@ -155,26 +161,27 @@ pub fn assemble<
     B: Items<SumKey, SumVal, P, R> + Sync,
     P: Send,
     R: Threads + Wait + Sync,
->(shop: &Workshop<'_, A, B, R>, passes: &mut [P], job: &Job) -> Result<Made, Fault>
+>(context: &RenderContext<'_, A, B, R>, passes: &mut [P], job: &Job) -> Result<Made, Fault>
     requires some { 0 < length passes.old }
     requires job { IsJob job.now }
-    requires tiles { TilesServe job.now (A.fits shop.now.tiles.now) (A.means shop.now.tiles.now) }
-    requires sums { SumsServe job.now (B.fits shop.now.sums.now) (B.means shop.now.sums.now) }
-    ensures image { IfOk result (λ m. (shows : Pictures) → IsShown shows job.now (A.means shop.now.tiles.now) (B.means shop.now.sums.now)
+    requires tiles { TilesServe job.now (A.fits context.now.tiles.now) (A.means context.now.tiles.now) }
+    requires sums { SumsServe job.now (B.fits context.now.sums.now) (B.means context.now.sums.now) }
+    ensures image { IfOk result (λ m. (shows : Pictures)
+        → IsShown shows job.now (A.means context.now.tiles.now) (B.means context.now.sums.now)
         → m.raster ≡ resolved_image (named shows job.now.name) job.now.resolved) }
     ensures sides { IfOk result (λ m. dim_of m.raster ≡ turned_dim job.now.resolved.turn job.now.resolved.size) }
     ensures channels { IfOk result (λ m. m.raster.channels ≡ channels_in job.now.resolved.quality (channels_of job.now.shape.kind)) }
     ensures top { IfOk result (λ m. m.raster.top ≡ top_in job.now.resolved.quality (top_of job.now.shape.depth)) }
     ensures held { IfOk result (λ m. IsHeldFor (turned_dim job.now.resolved.turn job.now.resolved.size) (channels_of job.now.shape.kind)
         m.held) }
-    ensures fault { IfErr result (IsPlanFault (A.means shop.now.tiles.now) (A.failed shop.now.tiles.now)
-        (B.means shop.now.sums.now) (B.failed shop.now.sums.now) job.now.plan) }
+    ensures fault { IfErr result (IsPlanFault (A.means context.now.tiles.now) (A.failed context.now.tiles.now)
+        (B.means context.now.sums.now) (B.failed context.now.sums.now) job.now.plan) }
 {
     // Laws of pictures and of bands.
     whole_stays_whole();
     bands_follow();
-    match job.whole(shop.alloc) {
-        Ok(band) => assemble_band(shop, passes, job, &band),
+    match job.whole(context.alloc) {
+        Ok(band) => assemble_band(context, passes, job, &band),
         Err(_) => Err(Fault::NoMemory),
     }
 }

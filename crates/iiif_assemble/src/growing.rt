@@ -17,12 +17,12 @@ ghost use Rattle.iiif_assemble.specs.Gathering.{AreValues, IsItemFault};
 ghost use Rattle.iiif_assemble.specs.Jobs.{IsJob, TilesAreMeant, TilesServe};
 ghost use Rattle.iiif_assemble.specs.Code.{count_of, tile_adds, tile_in, AreTiles, IsPictureOf, IsWithin, ListsMet, TileHasPart};
 
-use crate::crew::gather;
+use crate::context::RenderContext;
 use crate::finishing::{count_of, finish_all};
 use crate::items::Items;
 use crate::job::{Job, Made};
 use crate::merging::count_of_sums;
-use crate::workshop::Workshop;
+use crate::pool::gather;
 use iiif_area::Sums;
 use iiif_area::laws::merging_adds;
 use iiif_canonical::Resolved;
@@ -90,7 +90,7 @@ fn add_all(
 /// The part in `from` of a result that has a side above its region's, of the tiles that have samples for a place of it. Nothing
 /// is held of the result but its sums at these places, and then the samples.
 pub(crate) fn grow<A: Items<TileKey, TileVal, P, R> + Sync, B, P: Send, R: Threads + Wait + Sync>(
-    shop: &Workshop<'_, A, B, R>,
+    context: &RenderContext<'_, A, B, R>,
     passes: &mut [P],
     job: &Job,
     keys: &[TileKey],
@@ -100,28 +100,41 @@ pub(crate) fn grow<A: Items<TileKey, TileVal, P, R> + Sync, B, P: Send, R: Threa
     requires some { 0 < length passes.old }
     requires job { IsJob job.now }
     requires cover { AreTiles job.now keys.now }
-    requires serves { TilesServe job.now (A.fits shop.now.tiles.now) (A.means shop.now.tiles.now) }
+    requires serves { TilesServe job.now (A.fits context.now.tiles.now) (A.means context.now.tiles.now) }
     requires inside { LiesIn from job.now.resolved.size }
     requires lists { ListsMet (grown_places job.now.resolved.rect job.now.resolved.size) from keys.now items.now }
     ensures image { IfOk result (λ m. (shows : Pictures) (p : Picture) → IsPictureOf shows job.now p
-        → TilesAreMeant shows job.now (A.means shop.now.tiles.now) →
+        → TilesAreMeant shows job.now (A.means context.now.tiles.now) →
         m.raster ≡ crop (scale (crop p job.now.resolved.rect) job.now.resolved.size) from) }
     ensures sides { IfOk result (λ m. dim_of m.raster ≡ sides_of from) }
     ensures channels { IfOk result (λ m. m.raster.channels ≡ channels_of job.now.shape.kind) }
     ensures top { IfOk result (λ m. m.raster.top ≡ top_of job.now.shape.depth) }
     ensures held { IfOk result (λ m. IsWithin (count_of m.raster) m.held) }
-    ensures fault { IfErr result (IsItemFault (A.means shop.now.tiles.now) (A.failed shop.now.tiles.now) keys.now items.now) }
+    ensures fault { IfErr result (IsItemFault (A.means context.now.tiles.now) (A.failed context.now.tiles.now) keys.now items.now) }
 {
     // Laws of sums and of pictures.
     merging_adds();
     whole_stays_whole();
-    let values = gather(shop.rt, shop.alloc, shop.tiles, passes, keys, items)?;
-    let Ok(mut total) = Sums::zero(shop.alloc, from, job.shape.kind) else {
+    let values = gather(
+        context.rt,
+        context.alloc,
+        context.tiles,
+        passes,
+        keys,
+        items,
+    )?;
+    let Ok(mut total) = Sums::zero(context.alloc, from, job.shape.kind) else {
         return Err(Fault::NoMemory);
     };
     let region = job.resolved.rect;
     add_all(&mut total, &job.shape, &job.resolved, keys, items, &values);
-    match finish_all(shop.rt, shop.alloc, &total, region.dim(), job.shape.depth) {
+    match finish_all(
+        context.rt,
+        context.alloc,
+        &total,
+        region.dim(),
+        job.shape.depth,
+    ) {
         Ok(raster) => {
             let held = count_of_sums(&total) + count_of(&raster);
             Ok(Made { raster, held })

@@ -1,19 +1,20 @@
 //! What an image is made of, and what is made.
 
-ghost use Rattle.std.specs.Prelude.{◌≡◌, ◌<◌, ◌≤◌, All, IfOk};
-ghost use Rattle.iiif_pixel.specs.Geometry.{sides_of, LiesIn};
+ghost use Rattle.std.specs.Prelude.{◌≡◌, ◌<◌, ◌≤◌, IfOk};
+ghost use Rattle.std.specs.Int.{div_ceil};
+ghost use Rattle.iiif_pixel.specs.Geometry.{channels_of, sides_of, LiesIn};
 ghost use Rattle.iiif_pixel.specs.Scaling.{whole_of};
 ghost use Rattle.iiif_pixel.specs.TurnPlaces.{turned_dim};
 ghost use Rattle.iiif_area.specs.Places.{IsScalable};
 ghost use Rattle.iiif_keys.specs.Blocks.{IsEdge};
-ghost use Rattle.iiif_planner.specs.Bands.{band_rect, AreBands};
+ghost use Rattle.iiif_planner.specs.Bands.{band_rect};
+ghost use Rattle.iiif_planner.specs.Items.{HasItems};
 ghost use Rattle.iiif_assemble.specs.Jobs.{IsBandOf, IsJob};
 
 use iiif_canonical::Resolved;
 use iiif_keys::{Name, Shape};
 use iiif_pixel::{NoMemory, Raster, Rect};
-use iiif_planner::laws::bands_cut_results;
-use iiif_planner::{Band, Plan, band_in, bands, plan};
+use iiif_planner::{Band, Plan, band_at, band_count, band_in, plan};
 use std::alloc::Global;
 
 /// A request that is planned.
@@ -61,6 +62,7 @@ impl Job {
         ensures edge { IfOk result (λ j. j.edge ≡ edge) }
         ensures shape { IfOk result (λ j. j.shape ≡ shape) }
         ensures resolved { IfOk result (λ j. j.resolved ≡ resolved) }
+        ensures plan { IfOk result (λ j. HasItems name edge shape.dim (channels_of shape.kind) room resolved j.plan) }
     {
         let plan = plan(alloc, &name, &resolved, shape.dim, shape.kind, edge, room)?;
         Ok(Job {
@@ -72,36 +74,26 @@ impl Job {
         })
     }
 
-    /// The bands of `rows` of the job's result, from the top, the last perhaps of fewer. The only error is lack of memory.
-    pub fn bands(&self, alloc: Global, rows: u32) -> Result<Vec<Band>, NoMemory>
-        requires job { IsJob self.now }
+    /// Counts the bands of `rows` that the job's result is cut into.
+    pub fn band_count(&self, rows: u32) -> u32
         requires rows { 0 < rows }
-        ensures bands { IfOk result (λ bs. AreBands self.now.resolved self.now.plan rows bs.items) }
-        ensures each { IfOk result (λ bs. All (IsBandOf self.now) bs.items) }
+        ensures { result ≡ div_ceil (turned_dim self.now.resolved.turn self.now.resolved.size).h rows }
     {
-        // A law of bands.
-        bands_cut_results();
-        // Read, so that the image's sides are known to fit.
-        let (_w, _h) = (self.shape.dim.w, self.shape.dim.h);
-        bands(alloc, &self.resolved, &self.plan, rows)
+        band_count(&self.resolved, rows)
     }
 
-    /// The first of the bands of `rows`. The only error is lack of memory.
-    pub fn first(&self, alloc: Global, rows: u32) -> Result<Band, NoMemory>
+    /// Returns band `i` of the job's result, cut from the top into bands of `rows`, the last perhaps of fewer. It takes the time of that
+    /// band's items, however many bands there are. The only error is lack of memory.
+    pub fn band(&self, alloc: Global, rows: u32, i: u32) -> Result<Band, NoMemory>
         requires job { IsJob self.now }
-        ensures rect { IfOk result (λ b. b.rect ≡ band_rect (turned_dim self.now.resolved.turn self.now.resolved.size) rows 0) }
+        requires rows { 0 < rows }
+        requires index { i < div_ceil (turned_dim self.now.resolved.turn self.now.resolved.size).h rows }
+        ensures rect { IfOk result (λ b. b.rect ≡ band_rect (turned_dim self.now.resolved.turn self.now.resolved.size) rows i) }
         ensures band { IfOk result (IsBandOf self.now) }
     {
         // Read, so that the image's sides are known to fit.
         let (_w, _h) = (self.shape.dim.w, self.shape.dim.h);
-        let dim = self.resolved.size.turned(self.resolved.turn);
-        let rect = Rect {
-            x: 0,
-            y: 0,
-            w: dim.w,
-            h: rows.min(dim.h),
-        };
-        band_in(alloc, &self.resolved, &self.plan, rect)
+        band_at(alloc, &self.resolved, &self.plan, rows, i)
     }
 
     /// The band of all rows. The only error is lack of memory.

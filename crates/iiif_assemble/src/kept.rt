@@ -1,6 +1,6 @@
 //! Sums of blocks that are kept from band to band.
 
-ghost use Rattle.std.specs.Prelude.{◌≡◌, ◌<◌, ◌≤◌, All, Contains, Err, IfErr, IfOk, IfSome, OnOk, length, true};
+ghost use Rattle.std.specs.Prelude.{◌≡◌, ◌<◌, ◌≤◌, ◌⊎◌, All, Contains, Err, IfErr, IfOk, IfSome, OnOk, length, true};
 ghost use Rattle.std.specs.Arc.{arc_value};
 ghost use Rattle.iiif_assemble.specs.Faults.{IsSumsFault};
 ghost use Rattle.iiif_assemble.specs.Gathering.{IsItemFault};
@@ -8,11 +8,11 @@ ghost use Rattle.iiif_assemble.specs.Kept.{AreKept, AreOfItems, AreOneEach, HasA
 ghost use Rattle.iiif_assemble.specs.Opening.{AreValuesOf, IsFaultOf};
 ghost use Rattle.iiif_assemble.specs.Jobs.{IsBandOf, IsJob, SumsServe};
 
-use crate::crew::gather;
+use crate::context::RenderContext;
 use crate::items::Items;
 use crate::job::Job;
 use crate::opened::Opened;
-use crate::workshop::Workshop;
+use crate::pool::gather;
 use iiif_keys::{CacheKey, Fault, SumKey, SumVal};
 use iiif_pixel::NoMemory;
 use iiif_planner::{Band, Plan};
@@ -62,6 +62,8 @@ impl<'a, B: Items<SumKey, SumVal, P, R>, P, R> Items<SumKey, SumVal, P, R> for W
 
     ghost is_open = { λ a o k parts. B.is_open a.sums.now o k parts };
 
+    ghost asked = { λ a old new. (new ≡ old) ⊎ B.asked a.sums.now old new };
+
     fn open(
         &self,
         rt: &R,
@@ -96,8 +98,8 @@ impl<'a, B: Items<SumKey, SumVal, P, R>, P, R> Items<SumKey, SumVal, P, R> for W
         self.sums.close(rt, load, key, parts, values)
     }
 
-    fn is_at_hand(&self, rt: &R, key: &SumKey) -> bool {
-        kept_for(self.kept, key).is_some() || self.sums.is_at_hand(rt, key)
+    fn is_cached(&self, rt: &R, key: &SumKey) -> bool {
+        kept_for(self.kept, key).is_some() || self.sums.is_cached(rt, key)
     }
 }
 
@@ -169,7 +171,7 @@ impl<'a, B> WithKept<'a, B> {
 /// The sums of the items, to be kept: those that are kept already, and the others asked by a worker for each pass.
 #[tactic(auto, using(crate::proofs::KeptLemmas::each_of_all))]
 fn gather_kept<A, B: Items<SumKey, SumVal, P, R> + Sync, P: Send, R: Threads + Wait + Sync>(
-    shop: &Workshop<'_, A, B, R>,
+    context: &RenderContext<'_, A, B, R>,
     passes: &mut [P],
     keys: &[SumKey],
     items: &[usize],
@@ -177,18 +179,18 @@ fn gather_kept<A, B: Items<SumKey, SumVal, P, R> + Sync, P: Send, R: Threads + W
 ) -> Result<Vec<KeptSum>, Fault>
     requires some { 0 < length passes.old }
     requires within { All (λ i. i < length keys.now) items.now }
-    requires fits { All (B.fits shop.now.sums.now) keys.now }
-    requires kept { AreKept (B.means shop.now.sums.now) kept.now }
-    ensures kept { IfOk result (λ v. AreKept (B.means shop.now.sums.now) v.items) }
+    requires fits { All (B.fits context.now.sums.now) keys.now }
+    requires kept { AreKept (B.means context.now.sums.now) kept.now }
+    ensures kept { IfOk result (λ v. AreKept (B.means context.now.sums.now) v.items) }
     ensures few { IfOk result (λ v. AreOneEach keys.now items.now v.items) }
-    ensures fault { IfErr result (IsItemFault (B.means shop.now.sums.now) (B.failed shop.now.sums.now) keys.now items.now) }
+    ensures fault { IfErr result (IsItemFault (B.means context.now.sums.now) (B.failed context.now.sums.now) keys.now items.now) }
 {
     let before = WithKept {
-        sums: shop.sums,
+        sums: context.sums,
         kept,
     };
-    let values = gather(shop.rt, shop.alloc, &before, passes, keys, items)?;
-    let mut asked = Vec::new(shop.alloc);
+    let values = gather(context.rt, context.alloc, &before, passes, keys, items)?;
+    let mut asked = Vec::new(context.alloc);
     for n in 0..items.len() {
         keep(&mut asked, &keys[items[n]], &values[n])?;
     }
@@ -209,7 +211,7 @@ const MOST: usize = 64;
 /// The fault of the first block of the band, in the plan's order, that failed; or `NoMemory`. Then nothing is kept.
 #[tactic(auto, using(crate::proofs::KeptLemmas::all_keep, crate::proofs::KeptLemmas::each_kept, crate::proofs::KeptLemmas::none_kept, crate::proofs::KeptLemmas::some_kept, crate::proofs::KeptLemmas::tiles_keep))]
 pub fn keep_band<A, B: Items<SumKey, SumVal, P, R> + Sync, P: Send, R: Threads + Wait + Sync>(
-    shop: &Workshop<'_, A, B, R>,
+    context: &RenderContext<'_, A, B, R>,
     passes: &mut [P],
     job: &Job,
     band: &Band,
@@ -218,11 +220,12 @@ pub fn keep_band<A, B: Items<SumKey, SumVal, P, R> + Sync, P: Send, R: Threads +
     requires some { 0 < length passes.old }
     requires job { IsJob job.now }
     requires band { IsBandOf job.now band.now }
-    requires sums { SumsServe job.now (B.fits shop.now.sums.now) (B.means shop.now.sums.now) }
-    requires kept { AreKept (B.means shop.now.sums.now) kept.old.items }
-    ensures kept { AreKept (B.means shop.now.sums.now) kept.new.items }
+    requires sums { SumsServe job.now (B.fits context.now.sums.now) (B.means context.now.sums.now) }
+    requires kept { AreKept (B.means context.now.sums.now) kept.old.items }
+    ensures kept { AreKept (B.means context.now.sums.now) kept.new.items }
     ensures few { KeepsFew job.now.plan band.now.items.items kept.old.items kept.new.items result }
-    ensures fault { IfErr result (IsSumsFault (B.means shop.now.sums.now) (B.failed shop.now.sums.now) job.now.plan band.now.items.items) }
+    ensures fault { IfErr result (IsSumsFault (B.means context.now.sums.now) (B.failed context.now.sums.now) job.now.plan
+        band.now.items.items) }
 {
     let Plan::Sum(keys) = &job.plan else {
         return Ok(());
@@ -232,10 +235,10 @@ pub fn keep_band<A, B: Items<SumKey, SumVal, P, R> + Sync, P: Send, R: Threads +
         return Ok(());
     }
     let before = WithKept {
-        sums: shop.sums,
+        sums: context.sums,
         kept: kept.as_slice(),
     };
-    let own = before.kept_of::<P, R>(shop.alloc, keys, items);
+    let own = before.kept_of::<P, R>(context.alloc, keys, items);
     kept.clear();
     let Ok(own) = own else {
         return Err(Fault::NoMemory);
@@ -244,6 +247,6 @@ pub fn keep_band<A, B: Items<SumKey, SumVal, P, R> + Sync, P: Send, R: Threads +
         *kept = own;
         return Ok(());
     }
-    *kept = gather_kept(shop, passes, keys, items, &own)?;
+    *kept = gather_kept(context, passes, keys, items, &own)?;
     Ok(())
 }

@@ -2,23 +2,25 @@
 #![tactic(auto)]
 
 pub mod band;
-mod crew;
+pub mod context;
 mod finishing;
 mod growing;
+mod idle;
 pub mod items;
 pub mod job;
 pub mod kept;
+pub mod laws;
 pub mod lone;
 mod merging;
 pub mod opened;
 mod parts;
 mod pasting;
-pub mod workshop;
+mod pool;
 
 pub use band::{assemble, assemble_band};
+pub use context::RenderContext;
 pub use items::Items;
 pub use job::{Job, Made};
 pub use kept::{KeptSum, WithKept, keep_band};
 pub use lone::lone_tile;
 pub use opened::Opened;
-pub use workshop::Workshop;

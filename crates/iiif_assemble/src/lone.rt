@@ -1,16 +1,17 @@
 //! Images that are a tile as it stands.
 
-ghost use Rattle.std.specs.Prelude.{◌<◌, IfOk, IfErr, IfSome, IsTrue, length};
+ghost use Rattle.std.specs.Prelude.{◌<◌, ◌↔◌, IfOk, IfErr, IfSome, IsNone, IsTrue, length};
 ghost use Rattle.std.specs.Arc.{arc_value};
 ghost use Rattle.iiif_pixel.specs.Geometry.{channels_of};
 ghost use Rattle.iiif_keys.specs.Blocks.{TileFitsIn};
+ghost use Rattle.iiif_keys.specs.declared.keys.TileKey.{TileKey};
 ghost use Rattle.iiif_assemble.specs.Jobs.{IsJob, TilesServe};
-ghost use Rattle.iiif_assemble.specs.Lone.{IsFirstFault, IsTileImage, IsTileItself};
+ghost use Rattle.iiif_assemble.specs.Lone.{IsCopyOf, IsFirstFault, IsTileImage, IsTileItself};
 ghost use Rattle.iiif_assemble.specs.Code.{tile_in};
 
-use crate::crew::gather;
 use crate::items::Items;
 use crate::job::Job;
+use crate::pool::gather;
 use iiif_area::laws::same_sides_change_nothing;
 use iiif_keys::{Fault, TileKey, TileVal};
 use iiif_pixel::Quality;
@@ -23,7 +24,7 @@ use std::thread::Threads;
 /// Whether the region of a job is that of a tile, and nothing is turned or made gray.
 fn is_itself(job: &Job, key: &TileKey) -> bool
     requires fits { TileFitsIn job.now.shape.dim (channels_of job.now.shape.kind) key.now }
-    ensures { IsTrue result → IsTileItself job.now key.now }
+    ensures { IsTrue result ↔ IsTileItself job.now key.now }
 {
     let (turn, rect) = (job.resolved.turn, job.resolved.rect);
     let at = key.rect_in(job.shape.dim);
@@ -50,8 +51,10 @@ pub fn lone_tile<A: Items<TileKey, TileVal, P, R> + Sync, P: Send, R: Threads + 
 ) -> Result<Option<Arc<TileVal>>, Fault>
     requires some { 0 < length passes.old }
     requires job { IsJob job.now }
+    requires rows { 0 < rows }
     requires tiles { TilesServe job.now (A.fits tiles.now) (A.means tiles.now) }
     ensures image { IfOk result (λ found. IfSome found (λ v. IsTileImage job.now (A.means tiles.now) (tile_in (arc_value v)))) }
+    ensures only { IfOk result (λ found. IsNone found → (k : TileKey) → IsCopyOf job.now.plan k → IsTileItself job.now k → ⊥) }
     ensures fault { IfErr result (IsFirstFault job.now (A.means tiles.now) (A.failed tiles.now) rows) }
 {
     // Laws of scaling and of pictures.
@@ -63,11 +66,15 @@ pub fn lone_tile<A: Items<TileKey, TileVal, P, R> + Sync, P: Send, R: Threads + 
     if keys.len() != 1 || !is_itself(job, &keys[0]) {
         return Ok(None);
     }
-    let Ok(band) = job.first(alloc, rows) else {
+    let Ok(band) = job.band(alloc, rows, 0) else {
         return Err(Fault::NoMemory);
     };
     match gather(rt, alloc, tiles, passes, keys, &band.items) {
-        Ok(mut values) => Ok(values.pop()),
+        Ok(mut values) => match values.pop() {
+            Some(value) => Ok(Some(value)),
+            // Not reached: the one tile has places of each row.
+            None => Err(Fault::NoMemory),
+        },
         Err(fault) => Err(fault),
     }
 }

@@ -17,11 +17,11 @@ ghost use Rattle.iiif_assemble.specs.Gathering.{IsItemFault};
 ghost use Rattle.iiif_assemble.specs.Jobs.{IsJob, SumsAreMeant, SumsServe};
 ghost use Rattle.iiif_assemble.specs.Code.{count_of, sums_in, total_of, AreBlocks, IsPictureOf, IsWithin, ListsMet};
 
-use crate::crew::gather;
+use crate::context::RenderContext;
 use crate::finishing::{are_few, count_of, finish_all};
 use crate::items::Items;
 use crate::job::{Job, Made};
-use crate::workshop::Workshop;
+use crate::pool::gather;
 use iiif_area::laws::merging_adds;
 use iiif_area::{Sums, is_inside};
 use iiif_keys::{Fault, SumKey, SumVal, add_sums};
@@ -137,7 +137,7 @@ pub(crate) fn merge_sums<
     P: Send,
     R: Threads + Wait + Sync,
 >(
-    shop: &Workshop<'_, A, B, R>,
+    context: &RenderContext<'_, A, B, R>,
     passes: &mut [P],
     job: &Job,
     keys: &[SumKey],
@@ -147,21 +147,21 @@ pub(crate) fn merge_sums<
     requires some { 0 < length passes.old }
     requires job { IsJob job.now }
     requires cover { AreBlocks job.now keys.now }
-    requires serves { SumsServe job.now (B.fits shop.now.sums.now) (B.means shop.now.sums.now) }
+    requires serves { SumsServe job.now (B.fits context.now.sums.now) (B.means context.now.sums.now) }
     requires inside { LiesIn from job.now.resolved.size }
     requires lists { ListsMet block_places from keys.now items.now }
     ensures image { IfOk result (λ m. (shows : Pictures) (p : Picture) → IsPictureOf shows job.now p
-        → SumsAreMeant shows job.now (B.means shop.now.sums.now) →
+        → SumsAreMeant shows job.now (B.means context.now.sums.now) →
         m.raster ≡ crop (scale (crop p job.now.resolved.rect) job.now.resolved.size) from) }
     ensures sides { IfOk result (λ m. dim_of m.raster ≡ sides_of from) }
     ensures channels { IfOk result (λ m. m.raster.channels ≡ channels_of job.now.shape.kind) }
     ensures top { IfOk result (λ m. m.raster.top ≡ top_of job.now.shape.depth) }
     ensures held { IfOk result (λ m. IsWithin (count_of m.raster) m.held) }
-    ensures fault { IfErr result (IsItemFault (B.means shop.now.sums.now) (B.failed shop.now.sums.now) keys.now items.now) }
+    ensures fault { IfErr result (IsItemFault (B.means context.now.sums.now) (B.failed context.now.sums.now) keys.now items.now) }
 {
     // Laws of sums and of pictures.
     merging_adds();
     whole_stays_whole();
-    let values = gather(shop.rt, shop.alloc, shop.sums, passes, keys, items)?;
-    made_of(shop.rt, shop.alloc, job, &values, from)
+    let values = gather(context.rt, context.alloc, context.sums, passes, keys, items)?;
+    made_of(context.rt, context.alloc, job, &values, from)
 }

@@ -5,22 +5,22 @@ ghost use Rattle.std.specs.Arc.{arc_value};
 ghost use Rattle.iiif_assemble.specs.Opening.{AreValuesOf, IsFaultOf, IsPart, IsPartsFault};
 ghost use denote.Param.Send.{IsSync};
 
-use crate::crew::{joined, keep};
+use crate::idle::{IdleWorkers, Worker};
 use crate::items::Items;
 use crate::opened::Opened;
+use crate::pool::{concat, keep};
 use iiif_keys::Fault;
-use iiif_workers::{Helper, Idle};
 use std::alloc::Global;
 use std::sync::{Arc, Wait};
 use std::thread::{Threads, join};
 
 /// What has the values, and who has nothing to do.
 #[derive(Drop)]
-pub(crate) struct Crew<'x, 'a, G, P, R> {
+pub(crate) struct Pool<'x, 'a, G, P, R> {
     pub rt: &'x R,
     pub alloc: Global,
     pub group: &'x G,
-    pub idle: &'x Idle<'a, P>,
+    pub idle: &'x IdleWorkers<'a, P>,
 }
 
 /// The value of a key. Of one that is made of parts, workers that have nothing to do ask for some of these.
@@ -31,16 +31,16 @@ pub(crate) fn ask<
     V: Drop + Send + Sync,
     P: Send,
     R: Threads + Wait + Sync,
->(crew: &Crew<'_, '_, G, P, R>, own: &mut P, key: &K) -> Result<Arc<V>, Fault>
-    requires { G.fits crew.now.group.now key.now }
-    ensures value { IfOk result (λ v. G.means crew.now.group.now key.now (arc_value v)) }
-    ensures fault { IfErr result (IsFaultOf (G.failed crew.now.group.now) key.now) }
+>(pool: &Pool<'_, '_, G, P, R>, own: &mut P, key: &K) -> Result<Arc<V>, Fault>
+    requires { G.fits pool.now.group.now key.now }
+    ensures value { IfOk result (λ v. G.means pool.now.group.now key.now (arc_value v)) }
+    ensures fault { IfErr result (IsFaultOf (G.failed pool.now.group.now) key.now) }
 {
-    match crew.group.open(crew.rt, own, key) {
+    match pool.group.open(pool.rt, own, key) {
         Ok(Opened::Known(value)) => Ok(value),
         Ok(Opened::Parts(load, parts)) => {
-            let values = share(crew, own, key, &parts);
-            crew.group.close(crew.rt, load, key, parts, values)
+            let values = share(pool, own, key, &parts);
+            pool.group.close(pool.rt, load, key, parts, values)
         }
         Err(fault) => Err(fault),
     }
@@ -56,41 +56,41 @@ fn share<
     V: Drop + Send + Sync,
     P: Send,
     R: Threads + Wait + Sync,
->(crew: &Crew<'_, '_, G, P, R>, own: &mut P, key: &K, parts: &[K]) -> Result<Vec<Arc<V>>, Fault>
+>(pool: &Pool<'_, '_, G, P, R>, own: &mut P, key: &K, parts: &[K]) -> Result<Vec<Arc<V>>, Fault>
     requires few { length parts.now ≤ 4 }
-    requires parts { All (IsPart (G.fits crew.now.group.now) (G.rank crew.now.group.now) (G.failed crew.now.group.now) key.now) parts.now }
-    ensures values { IfOk result (λ v. AreValuesOf (G.means crew.now.group.now) parts.now v.items) }
-    ensures fault { IfErr result (IsPartsFault (G.means crew.now.group.now) (G.failed crew.now.group.now) parts.now) }
+    requires parts { All (IsPart (G.fits pool.now.group.now) (G.rank pool.now.group.now) (G.failed pool.now.group.now) key.now) parts.now }
+    ensures values { IfOk result (λ v. AreValuesOf (G.means pool.now.group.now) parts.now v.items) }
+    ensures fault { IfErr result (IsPartsFault (G.means pool.now.group.now) (G.failed pool.now.group.now) parts.now) }
 {
     if parts.len() < 2 {
-        return ask_in_turn(crew, own, key, parts);
+        return ask_in_turn(pool, own, key, parts);
     }
-    let Some(helper) = crew.idle.take(crew.rt) else {
+    let Some(worker) = pool.idle.take(pool.rt) else {
         let (front, back) = parts.split_at(1);
-        let first = ask_in_turn(crew, own, key, front)?;
-        let rest = share(crew, own, key, back)?;
-        return joined(first, rest);
+        let first = ask_in_turn(pool, own, key, front)?;
+        let rest = share(pool, own, key, back)?;
+        return concat(first, rest);
     };
     let (front, back) = parts.split_at(parts.len() - 1);
-    // The helper has the thread that is started, so this worker goes on at once.
+    // The worker has the thread that is started, so this worker goes on at once.
     let (rest, first) = join(
-        crew.rt,
+        pool.rt,
         || -> Result<Vec<Arc<V>>, Fault>
-            requires { IsSync R.row × All (IsPart (G.fits crew.now.group.now) (G.rank crew.now.group.now) (G.failed crew.now.group.now)
+            requires { IsSync R.row × All (IsPart (G.fits pool.now.group.now) (G.rank pool.now.group.now) (G.failed pool.now.group.now)
                 key.now) back.now }
-            ensures { IfOk result (λ v. AreValuesOf (G.means crew.entry.now.group.now) back.entry.now v.items)
-                × IfErr result (IsPartsFault (G.means crew.entry.now.group.now) (G.failed crew.entry.now.group.now) back.entry.now) }
-        { help(crew, helper, key, back) },
+            ensures { IfOk result (λ v. AreValuesOf (G.means pool.entry.now.group.now) back.entry.now v.items)
+                × IfErr result (IsPartsFault (G.means pool.entry.now.group.now) (G.failed pool.entry.now.group.now) back.entry.now) }
+        { help(pool, worker, key, back) },
         || -> Result<Vec<Arc<V>>, Fault>
-            requires { IsSync R.row × (length front.now ≤ 3) × All (IsPart (G.fits crew.now.group.now) (G.rank crew.now.group.now)
-                (G.failed crew.now.group.now) key.now) front.now }
-            ensures { IfOk result (λ v. AreValuesOf (G.means crew.entry.now.group.now) front.entry.now v.items)
-                × IfErr result (IsPartsFault (G.means crew.entry.now.group.now) (G.failed crew.entry.now.group.now) front.entry.now) }
-        { share(crew, own, key, front) },
+            requires { IsSync R.row × (length front.now ≤ 3) × All (IsPart (G.fits pool.now.group.now) (G.rank pool.now.group.now)
+                (G.failed pool.now.group.now) key.now) front.now }
+            ensures { IfOk result (λ v. AreValuesOf (G.means pool.entry.now.group.now) front.entry.now v.items)
+                × IfErr result (IsPartsFault (G.means pool.entry.now.group.now) (G.failed pool.entry.now.group.now) front.entry.now) }
+        { share(pool, own, key, front) },
     );
     match first {
         Ok(first) => match rest {
-            Ok(rest) => joined(first, rest),
+            Ok(rest) => concat(first, rest),
             Err(later) => Err(later),
         },
         Err(earlier) => Err(earlier),
@@ -107,17 +107,18 @@ fn help<
     P: Send,
     R: Threads + Wait + Sync,
 >(
-    crew: &Crew<'_, 'a, G, P, R>,
-    mut helper: Helper<'a, P>,
+    pool: &Pool<'_, 'a, G, P, R>,
+    mut worker: Worker<'_, 'a, P, R>,
     key: &K,
     parts: &[K],
 ) -> Result<Vec<Arc<V>>, Fault>
-    requires { All (IsPart (G.fits crew.now.group.now) (G.rank crew.now.group.now) (G.failed crew.now.group.now) key.now) parts.now }
-    ensures values { IfOk result (λ v. AreValuesOf (G.means crew.now.group.now) parts.now v.items) }
-    ensures fault { IfErr result (IsPartsFault (G.means crew.now.group.now) (G.failed crew.now.group.now) parts.now) }
+    requires { All (IsPart (G.fits pool.now.group.now) (G.rank pool.now.group.now) (G.failed pool.now.group.now) key.now) parts.now }
+    ensures values { IfOk result (λ v. AreValuesOf (G.means pool.now.group.now) parts.now v.items) }
+    ensures fault { IfErr result (IsPartsFault (G.means pool.now.group.now) (G.failed pool.now.group.now) parts.now) }
 {
-    let values = ask_in_turn(crew, helper.pass, key, parts);
-    crew.idle.put(crew.rt, helper);
+    let values = ask_in_turn(pool, worker.pass(), key, parts);
+    // Idle again.
+    drop(worker);
     values
 }
 
@@ -129,14 +130,14 @@ fn ask_in_turn<
     V: Drop + Send + Sync,
     P: Send,
     R: Threads + Wait + Sync,
->(crew: &Crew<'_, '_, G, P, R>, own: &mut P, key: &K, parts: &[K]) -> Result<Vec<Arc<V>>, Fault>
-    requires { All (IsPart (G.fits crew.now.group.now) (G.rank crew.now.group.now) (G.failed crew.now.group.now) key.now) parts.now }
-    ensures values { IfOk result (λ v. AreValuesOf (G.means crew.now.group.now) parts.now v.items) }
-    ensures fault { IfErr result (IsPartsFault (G.means crew.now.group.now) (G.failed crew.now.group.now) parts.now) }
+>(pool: &Pool<'_, '_, G, P, R>, own: &mut P, key: &K, parts: &[K]) -> Result<Vec<Arc<V>>, Fault>
+    requires { All (IsPart (G.fits pool.now.group.now) (G.rank pool.now.group.now) (G.failed pool.now.group.now) key.now) parts.now }
+    ensures values { IfOk result (λ v. AreValuesOf (G.means pool.now.group.now) parts.now v.items) }
+    ensures fault { IfErr result (IsPartsFault (G.means pool.now.group.now) (G.failed pool.now.group.now) parts.now) }
 {
-    let mut values = Vec::new(crew.alloc);
+    let mut values = Vec::new(pool.alloc);
     for part in parts {
-        let value = ask(crew, own, part)?;
+        let value = ask(pool, own, part)?;
         keep(&mut values, value)?;
     }
     Ok(values)

@@ -16,11 +16,11 @@ ghost use Rattle.iiif_assemble.specs.Gathering.{AreValues, IsItemFault};
 ghost use Rattle.iiif_assemble.specs.Jobs.{IsJob, TilesAreMeant, TilesServe};
 ghost use Rattle.iiif_assemble.specs.Code.{count_of, tile_in, AreTiles, Copies, HasCopied, IsPictureOf, IsWithin, ListsMet};
 
-use crate::crew::gather;
+use crate::context::RenderContext;
 use crate::finishing::count_of;
 use crate::items::Items;
 use crate::job::{Job, Made};
-use crate::workshop::Workshop;
+use crate::pool::gather;
 use iiif_area::{corner_of, is_inside, meets, part_of};
 use iiif_keys::{Fault, Shape, TileKey, TileVal};
 use iiif_pixel::laws::{crop_of_crop, whole_stays_whole};
@@ -159,7 +159,7 @@ fn picture_of(
 /// The part in `from` of a region that keeps its sides, of the tiles that have a place of it. Nothing is held of the result but
 /// this part.
 pub(crate) fn paste<A: Items<TileKey, TileVal, P, R> + Sync, B, P: Send, R: Threads + Wait + Sync>(
-    shop: &Workshop<'_, A, B, R>,
+    context: &RenderContext<'_, A, B, R>,
     passes: &mut [P],
     job: &Job,
     keys: &[TileKey],
@@ -169,21 +169,28 @@ pub(crate) fn paste<A: Items<TileKey, TileVal, P, R> + Sync, B, P: Send, R: Thre
     requires some { 0 < length passes.old }
     requires job { IsJob job.now }
     requires cover { AreTiles job.now keys.now }
-    requires serves { TilesServe job.now (A.fits shop.now.tiles.now) (A.means shop.now.tiles.now) }
+    requires serves { TilesServe job.now (A.fits context.now.tiles.now) (A.means context.now.tiles.now) }
     requires inside { LiesIn from (sides_of job.now.resolved.rect) }
     requires lists { ListsMet (tile_places job.now.resolved.rect) from keys.now items.now }
     ensures image { IfOk result (λ m. (shows : Pictures) (p : Picture) → IsPictureOf shows job.now p
-        → TilesAreMeant shows job.now (A.means shop.now.tiles.now) → m.raster ≡ crop (crop p job.now.resolved.rect) from) }
+        → TilesAreMeant shows job.now (A.means context.now.tiles.now) → m.raster ≡ crop (crop p job.now.resolved.rect) from) }
     ensures sides { IfOk result (λ m. dim_of m.raster ≡ sides_of from) }
     ensures channels { IfOk result (λ m. m.raster.channels ≡ channels_of job.now.shape.kind) }
     ensures top { IfOk result (λ m. m.raster.top ≡ top_of job.now.shape.depth) }
     ensures held { IfOk result (λ m. IsWithin (count_of m.raster) m.held) }
-    ensures fault { IfErr result (IsItemFault (A.means shop.now.tiles.now) (A.failed shop.now.tiles.now) keys.now items.now) }
+    ensures fault { IfErr result (IsItemFault (A.means context.now.tiles.now) (A.failed context.now.tiles.now) keys.now items.now) }
 {
     // Laws of pictures and of crops.
     whole_stays_whole();
     crop_of_crop();
-    let values = gather(shop.rt, shop.alloc, shop.tiles, passes, keys, items)?;
+    let values = gather(
+        context.rt,
+        context.alloc,
+        context.tiles,
+        passes,
+        keys,
+        items,
+    )?;
     // Read, so that the region's numbers are known to fit.
     let (_w, _h) = (job.shape.dim.w, job.shape.dim.h);
     let region = job.resolved.rect;
@@ -192,7 +199,7 @@ pub(crate) fn paste<A: Items<TileKey, TileVal, P, R> + Sync, B, P: Send, R: Thre
         y: region.y + from.y,
         ..from
     };
-    let raster = picture_of(shop.alloc, &job.shape, rect, keys, items, &values)?;
+    let raster = picture_of(context.alloc, &job.shape, rect, keys, items, &values)?;
     // Whole, so that its samples can be counted.
     raster.is_whole();
     let held = count_of(&raster);

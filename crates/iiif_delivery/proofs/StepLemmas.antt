@@ -1,13 +1,12 @@
 -- The steps of an image that is sent band by band.
-use Rattle.std.proofs.Common.{◌≡◌, ℕ, ◌+◌, ◌*◌, ◌%◌, ◌<◌, ◌≤◌, ◌⊎◌, ◌==◌, eqb, min, max, Bool, true, false, List, [], ◌++◌, length, get_or}
+use Rattle.std.proofs.Common.{◌≡◌, ℕ, ◌+◌, ◌*◌, ◌%◌, ◌<◌, ◌≤◌, ◌⊎◌, ◌==◌, eqb, min, max, Bool, true, false, List, [], ◌++◌, length}
 use Rattle.std.proofs.Common.{take, inl, inr, ⊎_elim, refl, sym, ap, subst, ◌∙◌, arith, append_assoc, length-append, Option}
 use Rattle.std.specs.Prelude.{if◌then◌else◌}
 use Rattle.std.specs.Int.{div_ceil}
 use Rattle.std.specs.Io.KnownBytes.{Appends}
 use Rattle.std.proofs.KnownBytes.{Appends-nil, Appends-trans}
 use Rattle.std.proofs.lemmas.Grind.{div_ceil_times}
-use Rattle.std.proofs.lemmas.List.{append-nil, length-map, get_or-map, take-append-le}
-use Rattle.std.proofs.lemmas.List.FromFn.{get_or-map-range_with_len, length-map-range_with_len}
+use Rattle.std.proofs.lemmas.List.{append-nil, take-append-le}
 use Rattle.std.proofs.Math.Nat.{mul-le-mul_left, mul-le-mul_right}
 use Rattle.std.proofs.Math.Seq.{take-append_seam, take-append-add}
 use Rattle.iiif_io.specs.Sending.{WasCut}
@@ -18,7 +17,6 @@ use Rattle.iiif_pixel.specs.Picture.{Picture, IsWhole, dim_of}
 use Rattle.iiif_pixel.specs.Scaling.{scale, whole_of}
 use Rattle.iiif_pixel.specs.TurnPlaces.{turned_dim}
 use Rattle.iiif_pixel.specs.declared.geometry.Dim.{Dim}
-use Rattle.iiif_pixel.specs.declared.geometry.Rect.{Rect}
 use Rattle.iiif_canonical.specs.Images.{resolved_image}
 use Rattle.iiif_canonical.specs.declared.resolved.Resolved.{Resolved}
 use Rattle.iiif_keys.specs.Names.{named, IsSource, Pictures}
@@ -29,9 +27,6 @@ use Rattle.iiif_keys.specs.declared.keys.SumKey.{SumKey}
 use Rattle.iiif_keys.specs.declared.keys.TileKey.{TileKey}
 use Rattle.iiif_keys.specs.declared.values.SumVal.{SumVal}
 use Rattle.iiif_keys.specs.declared.values.TileVal.{TileVal}
-use Rattle.iiif_planner.specs.declared.plans.Plan.{Plan}
-use Rattle.iiif_planner.proofs.Meeting.{last_met}
-use Rattle.iiif_planner.specs.Bands.{band_rect, AreBands}
 use Rattle.iiif_planner.specs.declared.banding.Band.{Band}
 use Rattle.iiif_assemble.specs.Faults.{IsBandFault}
 use Rattle.iiif_assemble.specs.Jobs.{channels_in, top_in, IsBandOf, IsHeldFor}
@@ -43,10 +38,13 @@ use Rattle.iiif_tiff_write.specs.OutKind.{samples_per_pixel}
 use Rattle.iiif_tiff_write.specs.declared.kind.OutKind.{OutKind}
 use Rattle.iiif_tiff_write.specs.declared.kind.OutKind.TheVariants.{Gray, Rgb, Bitonal, Gray16, Rgb16}
 use Rattle.iiif_tiff_write.proofs.Lengths.{length-head_of, length-strip, length-file}
-use Rattle.iiif_delivery.specs.Delivery.{band_from, len_with, result_dim, FailsFor, IsHeldInBands, IsImageFor, Stops}
-use Rattle.iiif_delivery.specs.Code.{HasCounted, HasRows, HasText, IsBandFor, Laws, StopsFor}
+use Rattle.iiif_delivery.specs.Delivery.{band_from, front_len, len_with, result_dim, FailsFor, IsBufferedIn, IsHeldInBands}
+use Rattle.iiif_delivery.specs.Delivery.{IsImageFor, Stops}
+use Rattle.iiif_delivery.specs.Code.{HasBuffered, HasCounted, HasRows, HasText, IsBandFor, Laws, StopsFor}
+use Rattle.iiif_delivery.specs.declared.delivery.Delivered.{Delivered}
 use Rattle.iiif_delivery.specs.declared.delivery.Stopped.{Stopped}
 use Rattle.iiif_delivery.specs.declared.delivery.Stopped.TheVariants.{Load}
+use Rattle.iiif_delivery.specs.declared.sending.Sending.{Sending}
 use Rattle.iiif_delivery.proofs.RowLemmas.{more_text, text_left}
 
 -- ---- The image that is asked for
@@ -76,37 +74,11 @@ asked_top p r =
 
 -- ---- Bands in their order
 
--- how many there are
-count_of_bands : (r : Resolved) (plan : Plan) (rows : ℕ) (bs : List Band) → AreBands r plan rows bs →
-    length bs ≡ div_ceil (turned_dim r.turn r.size).h rows
-count_of_bands r plan rows bs are =
-    let d = turned_dim r.turn r.size in
-    let rect : Band → Rect = λ b. b.rect in
-    sym (length-map bs rect) ∙ ap length are.rects ∙ length-map-range_with_len (band_rect d rows) 0 (div_ceil d.h rows)
-
--- and where each stands
-pub band_at : (r : Resolved) (plan : Plan) (rows : ℕ) (bs : List Band) (i : ℕ) (b : Band) → AreBands r plan rows bs → i < length bs →
-    get_or bs i b ≡ b →
-    b.rect ≡ band_rect (turned_dim r.turn r.size) rows i
-band_at r plan rows bs i b are within is =
-    let d = turned_dim r.turn r.size in
-    let rect : Band → Rect = λ q. q.rect in
-    let n = div_ceil d.h rows in
-    let counted : i < n = omega (arith, count_of_bands r plan rows bs are) in
-    ap rect (sym is) ∙ sym (get_or-map rect bs i b b.rect within) ∙ ap (λ rs. get_or rs i b.rect) are.rects
-    ∙ get_or-map-range_with_len (band_rect d rows) 0 n i i b.rect counted (omega arith)
-
-pub band_above : (r : Resolved) (plan : Plan) (rows : ℕ) (bs : List Band) (i : ℕ) → 0 < rows → AreBands r plan rows bs → i < length bs →
-    i * rows < (turned_dim r.turn r.size).h
-band_above r plan rows bs i some are within =
-    last_met rows (turned_dim r.turn r.size).h i some (omega (arith, count_of_bands r plan rows bs are))
-
-pub bands_end : (r : Resolved) (plan : Plan) (rows : ℕ) (bs : List Band) (i : ℕ) → 0 < rows → AreBands r plan rows bs → length bs ≤ i →
-    min (i * rows) (turned_dim r.turn r.size).h ≡ (turned_dim r.turn r.size).h
-bands_end r plan rows bs i some are past =
-    let h = (turned_dim r.turn r.size).h in
+-- the last band ends with the last row
+pub bands_end : (h rows i : ℕ) → 0 < rows → div_ceil h rows ≤ i → min (i * rows) h ≡ h
+bands_end h rows i some past =
     let reached : h ≤ div_ceil h rows * rows = (div_ceil_times h rows some).0 in
-    let later : div_ceil h rows * rows ≤ i * rows = mul-le-mul_right rows (omega (arith, count_of_bands r plan rows bs are)) in
+    let later : div_ceil h rows * rows ≤ i * rows = mul-le-mul_right rows past in
     omega (arith, reached, later)
 
 -- ---- Lengths
@@ -233,6 +205,40 @@ pub counted_done : (j : Job) (kind : OutKind) (front rows : ℕ) (text : List �
     HasCounted j kind front rows text sent held y → IsHeldInBands (result_dim j) rows (channels_of j.shape.kind) held
 counted_done j kind front rows text sent held y some end counted =
     record { band = counted.first (omega (arith, end, some)); twice = counted.band }
+
+-- ---- What is buffered
+
+-- what stands before the rows
+pub buffered_first : (j : Job) (kind : OutKind) (front rows y : ℕ) (text : List ℕ) → length text ≡ front → y ≡ 0 →
+    HasBuffered j kind front rows text 0 y
+buffered_first j kind front rows y text len none =
+    record { now = omega (arith, len); least = λ some. absurd (omega (arith, none, some)); most = omega arith }
+
+-- a band more, of which nothing is buffered any longer where it is flushed
+pub buffered_more : (j : Job) (kind : OutKind) (front rows : ℕ) (text more after left : List ℕ) (sent held y n y2 buffered buffered2 : ℕ) →
+    HasCounted j kind front rows text sent held y → HasBuffered j kind front rows text buffered y →
+    length more ≡ row_len kind (result_dim j).w * n → n ≤ min rows (result_dim j).h → after ≡ text ++ more →
+    buffered2 ≡ max buffered (length after) → length left ≤ 65536 + front → HasBuffered j kind front rows left buffered2 y2
+buffered_more j kind front rows text more after left sent held y n y2 buffered buffered2 counted has len few ready greater short =
+    let row = row_len kind (result_dim j).w in
+    let both : length after ≡ length text + length more = ap length ready ∙ length-append text more in
+    let narrow : row * n ≤ row * min rows (result_dim j).h = mul-le-mul_left row few in
+    record {
+      now = short;
+      least = λ _. elim counted.begun [
+        | inl none ↦
+            let t = counted.total in
+            let zero : row * y ≡ 0 = ap (λ m. row * m) (none.0) ∙ omega arith in
+            omega (arith, t, zero, none.1, both, greater)
+        | inr begun ↦ let l = has.least (begun.0) in omega (arith, l, greater)
+      ];
+      most = let m = has.most in let now = has.now in omega (arith, m, now, both, len, narrow, greater);
+    }
+
+-- all rows
+pub buffered_done : (s : Sending) (d : Delivered) (text : List ℕ) (y : ℕ) → 0 < (result_dim s.job.now).h → y ≡ (result_dim s.job.now).h →
+    HasBuffered s.job.now s.kind (front_len s) s.rows text d.buffered y → IsBufferedIn s d
+buffered_done s d text y some end has = record { front = has.least (omega (arith, end, some)); bounded = has.most }
 
 -- ---- What is written
 

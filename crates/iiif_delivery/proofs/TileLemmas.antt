@@ -1,5 +1,6 @@
 -- What is sent of an image that is a tile as it stands.
-use Rattle.std.proofs.Common.{◌≡◌, ℕ, ◌-◌, ◌*◌, ◌<◌, min, List, ◌++◌, length, inl, inr, ap, ◌∙◌, arith, append_assoc, Option}
+use Rattle.std.proofs.Common.{◌≡◌, ℕ, ◌+◌, ◌-◌, ◌*◌, ◌<◌, min, List, ◌++◌, length, inl, inr, ap, ◌∙◌, arith, append_assoc, Option}
+use Rattle.std.proofs.Common.{length-append}
 use Rattle.iiif_pixel.specs.Geometry.{channels_of}
 use Rattle.iiif_pixel.specs.Picture.{Picture, dim_of}
 use Rattle.iiif_pixel.specs.declared.geometry.Dim.{Dim}
@@ -23,9 +24,11 @@ use Rattle.iiif_tiff_write.specs.File.{file, head_of, strip}
 use Rattle.iiif_tiff_write.specs.OutKind.{samples_per_pixel}
 use Rattle.iiif_tiff_write.specs.declared.kind.OutKind.{OutKind}
 use Rattle.iiif_delivery.specs.Code.{IsSendingOf, Laws, TileStops}
-use Rattle.iiif_delivery.specs.Delivery.{band_from, result_dim, FailsFor, IsHeldInBands, IsImageFor, Stops}
+use Rattle.iiif_delivery.specs.Delivery.{band_from, front_len, result_dim, FailsFor, IsBufferedIn, IsHeldInBands, IsImageFor, Stops}
+use Rattle.iiif_delivery.specs.declared.delivery.Delivered.{Delivered}
 use Rattle.iiif_delivery.specs.declared.delivery.Stopped.{Stopped}
 use Rattle.iiif_delivery.specs.declared.delivery.Stopped.TheVariants.{Writer, Load}
+use Rattle.iiif_delivery.specs.declared.sending.Sending.{Sending}
 use Rattle.iiif_delivery.proofs.StepLemmas.{none_sent}
 
 -- the tile's picture is an image for the job
@@ -110,3 +113,11 @@ tile_fails contents fails j tile_means tile_failed sum_means sum_failed kind row
 -- what is held of a picture that is lent counts as its first band
 pub held_itself : (d : Dim) (rows channels held : ℕ) → held ≡ min rows d.h * d.w * channels → IsHeldInBands d rows channels held
 held_itself d rows channels held is = record { band = omega (arith, is); twice = omega (arith, is) }
+
+-- and what is buffered of it is what stands before its rows
+pub buffered_itself : (s : Sending) (d : Delivered) (a b : ℕ) → d.buffered ≡ a + b → a ≡ length s.start.now →
+    b ≡ length (head_of s.kind (result_dim s.job.now)) → IsBufferedIn s d
+buffered_itself s d a b sum start head =
+    let front : front_len s ≡ length s.start.now + length (head_of s.kind (result_dim s.job.now)) =
+    length-append s.start.now (head_of s.kind (result_dim s.job.now)) in
+    record { front = omega (arith, sum, start, head, front); bounded = omega (arith, sum, start, head, front) }

@@ -17,25 +17,28 @@ use Rattle.iiif_keys.specs.declared.keys.SumKey.{SumKey}
 use Rattle.iiif_keys.specs.declared.keys.TileKey.{TileKey}
 use Rattle.iiif_keys.specs.declared.values.SumVal.{SumVal}
 use Rattle.iiif_keys.specs.declared.values.TileVal.{TileVal}
+use Rattle.iiif_planner.specs.Bands.{band_rect}
 use Rattle.iiif_planner.specs.declared.banding.Band.{Band}
 use Rattle.iiif_assemble.specs.Faults.{IsBandFault}
-use Rattle.iiif_assemble.specs.Jobs.{channels_in, top_in, IsHeldFor, IsShown}
+use Rattle.iiif_assemble.specs.Jobs.{channels_in, top_in, IsBandOf, IsHeldFor, IsShown}
 use Rattle.iiif_assemble.specs.Kept.{AreFew, AreKept}
 use Rattle.iiif_assemble.specs.Lone.{IsFirstFault, IsTileImage}
 use Rattle.iiif_assemble.specs.declared.items.Items as items
 use Rattle.iiif_assemble.specs.declared.job.Job.{Job}
 use Rattle.iiif_assemble.specs.declared.kept.KeptSum.{KeptSum}
-use Rattle.iiif_assemble.specs.declared.workshop.Workshop.{Workshop}
+use Rattle.iiif_assemble.specs.declared.context.RenderContext.{RenderContext}
 use Rattle.iiif_tiff_write.specs.Bands.{band}
 use Rattle.iiif_tiff_write.specs.File.{file, file_len, head_of, row_len, strip}
 use Rattle.iiif_tiff_write.specs.Laws.{StripOfAllRows, StripOfMoreRows, StripOfNoRows}
 use Rattle.iiif_tiff_write.specs.OutKind.{out_depth, samples_per_pixel}
 use Rattle.iiif_tiff_write.specs.declared.kind.OutKind.{OutKind}
 use Rattle.iiif_tiff_write.specs.declared.kind.OutKind.TheVariants.{Gray, Rgb}
-use Rattle.iiif_delivery.specs.Delivery.{result_dim, IsHeldIn, IsImageFor}
+use Rattle.iiif_delivery.specs.Delivery.{result_dim, IsBufferedIn, IsHeldIn, IsImageFor}
 use Rattle.iiif_delivery.specs.declared.delivery.Delivered.{Delivered}
 use Rattle.iiif_delivery.specs.declared.delivery.Stopped.{Stopped}
 use Rattle.iiif_delivery.specs.declared.delivery.Stopped.TheVariants.{Writer, Load}
+use Rattle.iiif_delivery.specs.declared.rows.Unmade.{Unmade}
+use Rattle.iiif_delivery.specs.declared.rows.Unmade.TheVariants.{Disconnected, Faulted}
 use Rattle.iiif_delivery.specs.declared.sending.Sending.{Sending}
 
 -- what is relied on of pictures and of files
@@ -95,6 +98,12 @@ pub record HasCounted (j : Job) (kind : OutKind) (front rows : ℕ) (text : List
   pub begun : ((y ≡ 0) × (sent ≡ 0) × (held ≡ 0)) ⊎ ((0 < y) × ((result_dim j).w * channels_of j.shape.kind ≤ held))
   pub first : 0 < y → min rows (result_dim j).h * (result_dim j).w * channels_of j.shape.kind ≤ held
 
+-- Behind a front of so many bytes the first y rows were written or are buffered; so many bytes were at once.
+pub record HasBuffered (j : Job) (kind : OutKind) (front rows : ℕ) (text : List ℕ) (buffered y : ℕ) : Type 0 where
+  pub now : length text ≤ 65536 + front
+  pub least : 0 < y → front ≤ buffered
+  pub most : buffered ≤ 65536 + (front + row_len kind (result_dim j).w * min rows (result_dim j).h)
+
 -- Why a text wasn't sent whole: the writer failed within it; or memory ran out, and nothing was written.
 abbrev pub IsSendingOf : {W : Type 0} → (W → Option (List ℕ)) → (W → W → Type 0) → List ℕ → W → W → Stopped → Type 0
 IsSendingOf contents fails text old new (Writer n) = WasCut contents fails old new text n
@@ -137,19 +146,41 @@ module _ {A P R O : Type 0} (tile : items.Ghosts A TileKey TileVal P R O) (tiles
         × Appends (contents old) (contents new) (s.start.now ++ file image s.kind) ×
         (d.bytes ≡ length (s.start.now ++ file image s.kind))))
     pub held : IfSome result (λ r. IfOk r (IsHeldIn s))
+    pub buffered : IfSome result (λ r. IfOk r (IsBufferedIn s))
     pub stopped : IfSome result (λ r. IfErr r
         (TileStops contents fails s.job.now (tile.means tiles) (tile.failed tiles) s.kind s.rows s.start.now old new))
 
+-- Why a band isn't there: the client had disconnected, or a fault of which P holds.
+abbrev pub IsUnmadeFor : {W : Type 0} → (W → W → Type 0) → W → (Fault → Type 0) → Unmade → Type 0
+IsUnmadeFor fails out P Disconnected = fails out out
+IsUnmadeFor fails out P (Faulted f) = P f
+
 module _ {A B R P O U : Type 0} (tile : items.Ghosts A TileKey TileVal P R O) (sum : items.Ghosts B SumKey SumVal P R U)
-    (shop : Workshop A B R) (s : Sending) where
+    (context : RenderContext A B R) (s : Sending) where
   -- The rows of a band were appended to a text, and so much was held; or why not. What is kept stays values of its keys, and few.
   pub record PutsBand (b : Band) (sums : List KeptSum) (old new : List ℕ) (result : Result ℕ Fault) : Type 0 where
-    pub kept : AreKept (sum.means shop.sums.now) sums
+    pub kept : AreKept (sum.means context.sums.now) sums
     pub few : AreFew sums
     pub rows : IfOk result (λ held. (p : Picture) ×
-        IsBandFor s.job.now (tile.means shop.tiles.now) (sum.means shop.sums.now) b.rect p × (new ≡ old ++ strip s.kind p))
+        IsBandFor s.job.now (tile.means context.tiles.now) (sum.means context.sums.now) b.rect p × (new ≡ old ++ strip s.kind p))
     pub none : OnErr result (new ≡ old)
     pub held : IfOk result (IsHeldFor (sides_of b.rect) (channels_of s.job.now.shape.kind))
     pub fault : IfErr result (λ f. (f ≡ fault.NoMemory) ⊎
-        IsBandFault (tile.means shop.tiles.now) (tile.failed shop.tiles.now) (sum.means shop.sums.now) (sum.failed shop.sums.now)
-        s.job.now.plan b.items.items f)
+        IsBandFault (tile.means context.tiles.now) (tile.failed context.tiles.now) (sum.means context.sums.now)
+        (sum.failed context.sums.now) s.job.now.plan b.items.items f)
+
+  -- Band i was made and its rows appended to a text, and so much was held; or why not: the client had disconnected, memory ran out, or the
+  -- first of the band's items that failed. What is kept stays values of its keys, and few.
+  pub record MakesBand {W : Type 0} (fails : W → W → Type 0) (i : ℕ) (sums : List KeptSum) (out : W) (old new : List ℕ)
+      (result : Result ℕ Unmade) : Type 0 where
+    pub kept : AreKept (sum.means context.sums.now) sums
+    pub few : AreFew sums
+    pub rows : IfOk result (λ held. (p : Picture) ×
+        IsBandFor s.job.now (tile.means context.tiles.now) (sum.means context.sums.now) (band_rect (result_dim s.job.now) s.rows i) p ×
+        (new ≡ old ++ strip s.kind p))
+    pub none : OnErr result (new ≡ old)
+    pub held : IfOk result (IsHeldFor (sides_of (band_rect (result_dim s.job.now) s.rows i)) (channels_of s.job.now.shape.kind))
+    pub why : IfErr result (IsUnmadeFor fails out (λ f. (f ≡ fault.NoMemory) ⊎
+        ((b : Band) × (b.rect ≡ band_rect (result_dim s.job.now) s.rows i) × IsBandOf s.job.now b ×
+        IsBandFault (tile.means context.tiles.now) (tile.failed context.tiles.now) (sum.means context.sums.now)
+        (sum.failed context.sums.now) s.job.now.plan b.items.items f)))

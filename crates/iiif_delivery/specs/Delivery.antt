@@ -22,7 +22,7 @@ use Rattle.iiif_assemble.specs.Faults.{IsBandFault}
 use Rattle.iiif_assemble.specs.Jobs.{channels_in, top_in, IsBandOf, IsJob, IsShown, SumsServe, TilesServe}
 use Rattle.iiif_assemble.specs.declared.items.Items as items
 use Rattle.iiif_assemble.specs.declared.job.Job.{Job}
-use Rattle.iiif_assemble.specs.declared.workshop.Workshop.{Workshop}
+use Rattle.iiif_assemble.specs.declared.context.RenderContext.{RenderContext}
 use Rattle.iiif_tiff_write.specs.File.{file, file_len, head_of, row_len}
 use Rattle.iiif_tiff_write.specs.OutKind.{out_depth, samples_per_pixel}
 use Rattle.iiif_tiff_write.specs.declared.kind.OutKind.{OutKind}
@@ -83,15 +83,21 @@ front_len s = length (s.start.now ++ head_of s.kind (result_dim s.job.now))
 abbrev pub IsHeldIn : Sending → Delivered → Type 0
 IsHeldIn s d = IsHeldInBands (result_dim s.job.now) s.rows (channels_of s.job.now.shape.kind) d.held
 
+-- Of what was sent, so many bytes were buffered at once: what stands before the rows at least; and at most 64 KiB besides that and the rows
+-- of a band.
+pub record IsBufferedIn (s : Sending) (d : Delivered) : Type 0 where
+  pub front : front_len s ≤ d.buffered
+  pub bounded : d.buffered ≤ 65536 + (front_len s + row_len s.kind (result_dim s.job.now).w * min s.rows (result_dim s.job.now).h)
+
 module _ {A B R P O U : Type 0} (tile : items.Ghosts A TileKey TileVal P R O) (sum : items.Ghosts B SumKey SumVal P R U)
-    (shop : Workshop A B R) (s : Sending) where
+    (context : RenderContext A B R) (s : Sending) where
   -- So may be sent: the job is planned, and bands have rows; who has tiles and sums may be asked for the job's, and answers what has
   -- their shape; and the file has the image's channels and depth, and a length that fits.
   pub record MaySend : Type 0 where
     pub job : IsJob s.job.now
     pub rows : 0 < s.rows
-    pub tiles : TilesServe s.job.now (tile.fits shop.tiles.now) (tile.means shop.tiles.now)
-    pub sums : SumsServe s.job.now (sum.fits shop.sums.now) (sum.means shop.sums.now)
+    pub tiles : TilesServe s.job.now (tile.fits context.tiles.now) (tile.means context.tiles.now)
+    pub sums : SumsServe s.job.now (sum.fits context.sums.now) (sum.means context.sums.now)
     pub channels : channels_in s.job.now.resolved.quality (channels_of s.job.now.shape.kind) ≡ samples_per_pixel s.kind
     pub depth : top_in s.job.now.resolved.quality (top_of s.job.now.shape.depth) ≡ top_of (out_depth s.kind)
     pub len : file_len s.kind (result_dim s.job.now) < 2 ^ 32
@@ -100,7 +106,7 @@ module _ {A B R P O U : Type 0} (tile : items.Ghosts A TileKey TileVal P R O) (s
   abbrev pub SendsWhole : {W : Type 0} → (W → Option (List ℕ)) → W → W → Delivered → Type 0
   SendsWhole contents old new d =
       (shows : Pictures) → HasPicture shows s.job.now.name s.job.now.shape → IsSource (named shows s.job.now.name)
-      → (image : Picture) × IsImageFor shows s.job.now (tile.means shop.tiles.now) (sum.means shop.sums.now) image
+      → (image : Picture) × IsImageFor shows s.job.now (tile.means context.tiles.now) (sum.means context.sums.now) image
       × Appends (contents old) (contents new) (s.start.now ++ file image s.kind) ×
       (d.bytes ≡ length (s.start.now ++ file image s.kind))
 
@@ -108,18 +114,19 @@ module _ {A B R P O U : Type 0} (tile : items.Ghosts A TileKey TileVal P R O) (s
   abbrev pub StopsWithin : {W : Type 0} → (W → Option (List ℕ)) → (W → W → Type 0) → W → W → Stopped → Type 0
   StopsWithin contents fails old new stopped =
       (shows : Pictures) → HasPicture shows s.job.now.name s.job.now.shape → IsSource (named shows s.job.now.name)
-      → (image : Picture) × IsImageFor shows s.job.now (tile.means shop.tiles.now) (sum.means shop.sums.now) image
+      → (image : Picture) × IsImageFor shows s.job.now (tile.means context.tiles.now) (sum.means context.sums.now) image
       × Stops contents fails old new (front_len s) (s.start.now ++ file image s.kind) stopped
 
   -- So it is why a load stopped it.
   abbrev pub FailsIn : Stopped → Type 0
-  FailsIn = FailsFor s.job.now (tile.means shop.tiles.now) (tile.failed shop.tiles.now) (sum.means shop.sums.now)
-      (sum.failed shop.sums.now) s.kind s.rows (front_len s)
+  FailsIn = FailsFor s.job.now (tile.means context.tiles.now) (tile.failed context.tiles.now) (sum.means context.sums.now)
+      (sum.failed context.sums.now) s.kind s.rows (front_len s)
 
-  -- What a sending comes to: the image was sent whole, and so much was held of it; or the sending stopped within it, and why.
+  -- What a sending comes to: the image was sent whole, and so much was held and buffered of it; or the sending stopped within it, and why.
   pub record Sends {W : Type 0} (contents : W → Option (List ℕ)) (fails : W → W → Type 0) (old new : W)
       (result : Result Delivered Stopped) : Type 0 where
     pub whole : IfOk result (SendsWhole contents old new)
     pub held : IfOk result (IsHeldIn s)
+    pub buffered : IfOk result (IsBufferedIn s)
     pub stopped : IfErr result (StopsWithin contents fails old new)
     pub fault : IfErr result FailsIn

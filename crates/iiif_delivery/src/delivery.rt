@@ -5,18 +5,17 @@ ghost use Rattle.std.specs.Io.KnownBytes.{Appends};
 ghost use Rattle.iiif_io.specs.Sending.{WasCut};
 ghost use Rattle.iiif_tiff_write.specs.File.{file_len, head_of, row_len, strip_offset};
 ghost use Rattle.iiif_delivery.specs.Code.{StopsFor};
-ghost use Rattle.iiif_delivery.specs.Delivery.{FailsIn, IsHeldIn, MaySend, Sends, SendsWhole, StopsWithin};
+ghost use Rattle.iiif_delivery.specs.Delivery.{FailsIn, IsBufferedIn, IsHeldIn, MaySend, Sends, SendsWhole, StopsWithin};
 ghost use Rattle.iiif_delivery.specs.declared.delivery.Stopped.TheVariants.{Writer};
 
-use crate::rows::{laws_of_bands, put_band};
+use crate::admission::Admission;
+use crate::rows::{Unmade, laws_of_bands, make_band};
 use crate::sending::Sending;
 use crate::tile::send_tile;
-use crate::turns::{Turns, come, is_gone_meanwhile, leave};
-use iiif_assemble::{Items, Workshop};
+use iiif_assemble::{Items, RenderContext};
 use iiif_io::{Outlet, check_connected, send};
 use iiif_keys::{Fault, SumKey, SumVal, TileKey, TileVal};
 use iiif_pixel::{Dim, NoMemory};
-use iiif_planner::laws::bands_cut_results;
 use iiif_tiff_write::{OutKind, head, total_len};
 use std::alloc::Global;
 use std::sync::Wait;
@@ -29,6 +28,8 @@ pub struct Delivered {
     pub bytes: u64,
     /// How many samples and sums of the image were held at once, at most.
     pub held: u64,
+    /// How many bytes of the answer were buffered at once, at most.
+    pub buffered: u64,
 }
 
 /// Why an image wasn't sent whole, and how many bytes were written before.
@@ -108,51 +109,45 @@ fn stop<W: Outlet>(out: &mut W, text: &mut Vec<u8>, sent: u64, held: u64, fault:
 /// Sends an image in bands, as `send_image` does where it is not a tile as it stands.
 fn send_bands<
     A: Items<TileKey, TileVal, P, R> + Sync,
-    B: Items<SumKey, SumVal, P, R> + Turns<R> + Sync,
+    B: Items<SumKey, SumVal, P, R> + Admission<R> + Sync,
     P: Send,
     R: Threads + Wait + Sync,
     W: Outlet,
 >(
-    shop: &Workshop<'_, A, B, R>,
+    context: &RenderContext<'_, A, B, R>,
     passes: &mut [P],
     sending: &Sending<'_>,
     out: &mut W,
 ) -> Result<Delivered, Stopped>
     requires some { 0 < length passes.old }
-    requires sending { MaySend A.Items B.Items shop.now sending.now }
-    ensures whole { IfOk result (SendsWhole A.Items B.Items shop.now sending.now W.contents out.old out.new) }
+    requires sending { MaySend A.Items B.Items context.now sending.now }
+    ensures whole { IfOk result (SendsWhole A.Items B.Items context.now sending.now W.contents out.old out.new) }
     ensures held { IfOk result (IsHeldIn sending.now) }
-    ensures stopped { IfErr result (StopsWithin A.Items B.Items shop.now sending.now W.contents W.fails out.old out.new) }
-    ensures fault { IfErr result (FailsIn A.Items B.Items shop.now sending.now) }
+    ensures buffered { IfOk result (IsBufferedIn sending.now) }
+    ensures stopped { IfErr result (StopsWithin A.Items B.Items context.now sending.now W.contents W.fails out.old out.new) }
+    ensures fault { IfErr result (FailsIn A.Items B.Items context.now sending.now) }
 {
     // Laws of bands.
-    bands_cut_results();
     laws_of_bands();
     let dim = sending.job.resolved.size.turned(sending.job.resolved.turn);
-    let Ok(mut text) = front(shop.alloc, sending, dim) else {
-        return Err(Stopped::Load(0, Fault::NoMemory));
-    };
-    let Ok(bands) = sending.job.bands(shop.alloc, sending.rows) else {
+    let Ok(mut text) = front(context.alloc, sending, dim) else {
         return Err(Stopped::Load(0, Fault::NoMemory));
     };
     let mut sent = 0u64;
     let mut held = 0u64;
-    let mut kept = Vec::new(shop.alloc);
-    for band in &bands {
-        // Nothing is made for one who is gone. Where no rows wait, some were just written.
+    let mut buffered = 0u64;
+    let mut kept = Vec::new(context.alloc);
+    for i in 0..sending.job.band_count(sending.rows) {
+        // We check for client disconnects between bands. Where no rows wait, some were just written.
         if let Err(more) = check_connected(out, &text) {
             return Err(Stopped::Writer(sent + more));
         }
-        let queued = come::<B, P, R>(shop.rt, shop.sums, sending.job, band, kept.as_slice());
-        if is_gone_meanwhile(shop.rt, shop.sums, queued, out) {
-            return Err(Stopped::Writer(sent));
-        }
-        let made = put_band(shop, passes, sending, band, &mut kept, &mut text);
-        leave(shop.rt, shop.sums, queued);
-        match made {
+        match make_band(context, passes, sending, i, out, &mut kept, &mut text) {
             Ok(most) => held = held.max(most),
-            Err(fault) => return Err(stop(out, &mut text, sent, held, fault)),
+            Err(Unmade::Disconnected) => return Err(Stopped::Writer(sent)),
+            Err(Unmade::Faulted(fault)) => return Err(stop(out, &mut text, sent, held, fault)),
         }
+        buffered = buffered.max(text.len() as u64);
         if text.len() >= PIECE {
             match flush(out, &mut text, sent) {
                 Ok(all) => sent = all,
@@ -161,7 +156,11 @@ fn send_bands<
         }
     }
     match flush(out, &mut text, sent) {
-        Ok(bytes) => Ok(Delivered { bytes, held }),
+        Ok(bytes) => Ok(Delivered {
+            bytes,
+            held,
+            buffered,
+        }),
         Err(stopped) => Err(stopped),
     }
 }
@@ -181,24 +180,24 @@ fn send_bands<
 /// The first fault of a band, the writer's, or `NoMemory`.
 pub fn send_image<
     A: Items<TileKey, TileVal, P, R> + Sync,
-    B: Items<SumKey, SumVal, P, R> + Turns<R> + Sync,
+    B: Items<SumKey, SumVal, P, R> + Admission<R> + Sync,
     P: Send,
     R: Threads + Wait + Sync,
     W: Outlet,
 >(
-    shop: &Workshop<'_, A, B, R>,
+    context: &RenderContext<'_, A, B, R>,
     passes: &mut [P],
     sending: &Sending<'_>,
     out: &mut W,
 ) -> Result<Delivered, Stopped>
     requires some { 0 < length passes.old }
-    requires sending { MaySend A.Items B.Items shop.now sending.now }
-    ensures { Sends A.Items B.Items shop.now sending.now W.contents W.fails out.old out.new result }
+    requires sending { MaySend A.Items B.Items context.now sending.now }
+    ensures { Sends A.Items B.Items context.now sending.now W.contents W.fails out.old out.new result }
 {
     // Laws of pictures and of files.
     laws_of_bands();
-    match send_tile(shop, passes, sending, out) {
+    match send_tile(context, passes, sending, out) {
         Some(result) => result,
-        None => send_bands(shop, passes, sending, out),
+        None => send_bands(context, passes, sending, out),
     }
 }

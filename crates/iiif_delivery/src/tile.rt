@@ -7,7 +7,7 @@ ghost use Rattle.iiif_delivery.specs.Delivery.{MaySend};
 
 use crate::delivery::{Delivered, Stopped};
 use crate::sending::Sending;
-use iiif_assemble::{Items, Workshop, lone_tile};
+use iiif_assemble::{Items, RenderContext, lone_tile};
 use iiif_io::{Outlet, send_both};
 use iiif_keys::{Fault, SumKey, SumVal, TileKey, TileVal};
 use iiif_pixel::{Dim, NoMemory, Raster};
@@ -58,29 +58,36 @@ pub(crate) fn send_tile<
     R: Threads + Wait + Sync,
     W: Outlet,
 >(
-    shop: &Workshop<'_, A, B, R>,
+    context: &RenderContext<'_, A, B, R>,
     passes: &mut [P],
     sending: &Sending<'_>,
     out: &mut W,
 ) -> Option<Result<Delivered, Stopped>>
     requires some { 0 < length passes.old }
-    requires sending { MaySend A.Items B.Items shop.now sending.now }
-    ensures { SendsTile A.Items shop.now.tiles.now sending.now W.contents W.fails out.old out.new result }
+    requires sending { MaySend A.Items B.Items context.now sending.now }
+    ensures { SendsTile A.Items context.now.tiles.now sending.now W.contents W.fails out.old out.new result }
 {
     match sending.kind {
         OutKind::Gray | OutKind::Rgb => {}
         OutKind::Bitonal | OutKind::Gray16 | OutKind::Rgb16 => return None,
     }
     let (job, rows) = (sending.job, sending.rows);
-    let tile = match lone_tile(shop.rt, shop.alloc, shop.tiles, passes, job, rows) {
+    let tile = match lone_tile(context.rt, context.alloc, context.tiles, passes, job, rows) {
         Ok(found) => found?,
         Err(fault) => return Some(Err(Stopped::Load(0, fault))),
     };
     let raster = &tile.raster;
     let dim = raster.dim();
     let held = u64::from(rows.min(dim.h)) * u64::from(dim.w) * job.shape.kind.channels() as u64;
-    match send_raster(shop.alloc, out, sending.start, sending.kind, raster) {
-        Ok(bytes) => Some(Ok(Delivered { bytes, held })),
+    // The samples are no copy.
+    let front = head(sending.kind, dim);
+    let buffered = sending.start.len() as u64 + front.as_slice().len() as u64;
+    match send_raster(context.alloc, out, sending.start, sending.kind, raster) {
+        Ok(bytes) => Some(Ok(Delivered {
+            bytes,
+            held,
+            buffered,
+        })),
         Err(stopped) => Some(Err(stopped)),
     }
 }

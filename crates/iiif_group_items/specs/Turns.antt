@@ -1,5 +1,5 @@
 -- Jobs that wait for their turn, and those that have it.
-use Rattle.std.specs.Prelude.{◌≡◌, ℕ, ◌+◌, ◌<◌, ◌≤◌, List, ◌∷◌, ◌++◌, [], length, slice_index_or}
+use Rattle.std.specs.Prelude.{◌≡◌, ℕ, ◌+◌, ◌-◌, ◌*◌, ◌^◌, ◌<◌, ◌≤◌, min, List, ◌∷◌, ◌++◌, [], length, slice_index_or}
 use Rattle.std.specs.List.{remove}
 use Rattle.iiif_group_items.specs.declared.order.Order.{Order}
 use Rattle.iiif_group_items.specs.declared.order.Waiting.{Waiting}
@@ -43,6 +43,10 @@ IsLetIn old new n =
     (place : ℕ) × WaitsAt old.waiting.items place n × IsNext old.waiting.items place
     × (new.waiting.items ≡ remove old.waiting.items place)
 
--- one of this number waits too, behind the others
-abbrev pub WaitsToo : Order → Order → ℕ → Type 0
-WaitsToo old new n = (rank : ℕ) × (new.waiting.items ≡ old.waiting.items ++ record { number = n; rank = rank } ∷ [])
+-- The rank of a job of so much work by its number: the least work first, but for 4,194,304 pixels of work for each job that came between.
+abbrev pub rank_of : ℕ → ℕ → ℕ
+rank_of work n = min (work + n * 4194304) (2 ^ 64 - 1)
+
+-- one of this number waits too, behind the others, with this rank
+abbrev pub WaitsToo : Order → Order → ℕ → ℕ → Type 0
+WaitsToo old new n rank = new.waiting.items ≡ old.waiting.items ++ record { number = n; rank = rank } ∷ []

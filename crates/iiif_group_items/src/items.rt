@@ -1,6 +1,6 @@
 //! The groups of a node as what has the values of keys.
 
-ghost use Rattle.std.specs.Prelude.{◌≡◌, ◌<◌, [], Err, IfErr, IfOk, IsTrue, Ok};
+ghost use Rattle.std.specs.Prelude.{◌≡◌, ◌+◌, ◌<◌, ◌≤◌, [], Err, IfErr, IfOk, IsTrue, Ok};
 ghost use Rattle.std.specs.Arc.{arc_value};
 ghost use Rattle.std.specs.declared.alloc.Global.{Global};
 ghost use Rattle.std.specs.declared.sync.Arc.{Arc};
@@ -11,16 +11,16 @@ ghost use Rattle.iiif_keys.specs.Meaning.{sums_below};
 ghost use Rattle.iiif_outcome.specs.Outcomes.{is_given};
 ghost use Rattle.iiif_group_items.specs.Values.{SumGave, SumIsNamed, SumMayBe, TileGave, TileIsNamed, TileMayBe};
 
-use crate::job_queue::JobQueue;
+use crate::job_queue::{JobQueue, Queued};
 use iiif_assemble::{Items, Opened};
-use iiif_delivery::{Queued, Turns};
+use iiif_delivery::Admission;
 use iiif_keys::laws::parts_are_exact;
 use iiif_keys::{Fault, SumKey, SumVal, System, TileKey, TileVal};
 use iiif_source::Source;
 use iiif_sum_group::{Begun, Gate, Groups, Link, Open, Passes, SumCalls, TileCalls, take_outcome};
 use std::sync::ledger::Ledger;
 use std::sync::{Arc, Wait};
-use std::time::Clock;
+use std::time::{Clock, Duration};
 
 /// The groups of a node, as images are made of what they have, and who may make sums now.
 #[derive(Drop)]
@@ -68,6 +68,8 @@ impl<
 
     ghost is_open = { λ _ o k parts. parts ≡ [] };
 
+    ghost asked = { λ _ old new. old.tile.gets + 1 ≤ new.tile.gets };
+
     fn open(
         &self,
         rt: &R,
@@ -104,7 +106,7 @@ impl<
         }
     }
 
-    fn is_at_hand(&self, rt: &R, key: &TileKey) -> bool {
+    fn is_cached(&self, rt: &R, key: &TileKey) -> bool {
         self.0.tiles().group().holds(rt, key)
     }
 }
@@ -129,6 +131,8 @@ impl<
     ghost rank = { λ _ k. k.level };
 
     ghost is_open = { λ _ o k parts. (open_key o ≡ k) × (parts ≡ sums_below k) × (0 < k.level) };
+
+    ghost asked = { λ _ old new. old.sum.gets + 1 ≤ new.sum.gets };
 
     fn open(
         &self,
@@ -178,23 +182,27 @@ impl<
         }
     }
 
-    fn is_at_hand(&self, rt: &R, key: &SumKey) -> bool {
+    fn is_cached(&self, rt: &R, key: &SumKey) -> bool {
         self.0.sums().holds(rt, key)
     }
 }
 
-/// Whose sums are to be made waits until it is admitted.
-impl<'a, R: Wait + Clock, S: Source<R> + Drop, J: System, N, T> Turns<R>
+/// Jobs whose sums are to be made wait until they are admitted.
+impl<'a, R: Wait + Clock, S: Source<R> + Drop, J: System, N, T> Admission<R>
     for GroupItems<'a, R, S, J, N, T> {
-    fn come(&self, rt: &R, work: u64) -> Queued {
-        self.1.come(rt, work)
+    type Queued = Queued;
+
+    ghost work_of = { λ _ job. job.work };
+
+    fn enqueue(&self, rt: &R, work: u64) -> Queued {
+        self.1.enqueue(rt, work)
     }
 
-    fn wait(&self, rt: &R, job: Queued) -> bool {
-        self.1.wait(rt, job)
+    fn wait(&self, rt: &R, job: &Queued, limit: Duration) -> bool {
+        self.1.wait(rt, job, limit)
     }
 
-    fn leave(&self, rt: &R, job: Queued) {
-        self.1.leave(rt, job);
+    fn release(&self, rt: &R, job: Queued) {
+        self.1.release(rt, job);
     }
 }

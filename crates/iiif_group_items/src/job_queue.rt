@@ -3,20 +3,23 @@
 ghost use Rattle.std.specs.Prelude.{◌≡◌};
 
 use crate::order::Order;
-use iiif_delivery::Queued;
 use iiif_sum_group::StripedCondvar;
 use std::alloc::Global;
 use std::sync::{CondvarTimeouts, Mutex, Wait};
 use std::time::{Clock, Duration, Instant};
-
-/// How long a job waits until it looks around, in milliseconds.
-const MOMENT: u64 = 100;
 
 /// Where no job of a queue was let in for so many milliseconds, one more is, beside those at work: reads of these may have stalled.
 const PATIENCE: u64 = 500;
 
 /// From how many pixels on a job is a heavy one. Of such a worker has for some 50 milliseconds.
 const HEAVY: u64 = 16_777_216;
+
+/// A job in a queue, which waits or is admitted: its work, and its number among those of its queue. It has no `Drop`, and
+/// `JobQueue::release` alone consumes it.
+pub struct Queued {
+    work: u64,
+    number: u64,
+}
 
 /// The jobs of a queue, and when one was last let in.
 #[derive(Drop)]
@@ -48,7 +51,7 @@ impl Line {
 #[derive(Drop)]
 struct Queue {
     line: Mutex<Line>,
-    lists: StripedCondvar,
+    waiting: StripedCondvar,
 }
 
 impl Queue {
@@ -58,7 +61,7 @@ impl Queue {
                 order: Order::new(alloc, most),
                 changed: None,
             }),
-            lists: StripedCondvar::new(),
+            waiting: StripedCondvar::new(),
         }
     }
 
@@ -72,14 +75,13 @@ impl Queue {
         number
     }
 
-    /// Waits until a job is let in, or for a moment, and says whether it is.
-    fn wait<R: Wait + Clock>(&self, rt: &R, number: u64) -> bool {
+    /// Waits until a job is let in, for so long at most, and says whether it is.
+    fn wait<R: Wait + Clock>(&self, rt: &R, number: u64, limit: Duration) -> bool {
         let line = self.line.lock(rt);
-        let moment = Duration::from_millis(MOMENT);
         let (mut line, _) = self
-            .lists
+            .waiting
             .of(number)
-            .wait_timeout_while(rt, line, moment, |line| line.order.has(number));
+            .wait_timeout_while(rt, line, limit, |line| line.order.has(number));
         if line.is_stuck(rt) && line.order.let_in(number) {
             line.change(rt);
         }
@@ -90,12 +92,14 @@ impl Queue {
     /// for it until nobody waits.
     fn leave<R: Wait + Clock>(&self, rt: &R, number: u64) {
         let mut line = self.line.lock(rt);
-        let Some(next) = line.order.leave(number) else {
-            return;
-        };
-        line.change(rt);
-        drop(line);
-        self.lists.of(next).notify_all();
+        match line.order.leave(number) {
+            Some(called) => {
+                line.change(rt);
+                drop(line);
+                called.wake(&self.waiting);
+            }
+            None => drop(line),
+        }
     }
 }
 
@@ -125,21 +129,22 @@ impl JobQueue {
         }
     }
 
-    /// A job of so much work comes. Where there is room and nobody waits it is let in.
-    pub fn come<R: Wait + Clock>(&self, rt: &R, work: u64) -> Queued
+    /// Enqueues a job of so much work. Where there is room and nobody waits it is admitted at once.
+    pub fn enqueue<R: Wait + Clock>(&self, rt: &R, work: u64) -> Queued
         ensures { result.work ≡ work }
     {
         let number = self.queue(work).come(rt, work);
         Queued { work, number }
     }
 
-    /// Waits until a job is let in, or for a moment, and says whether it is. One is in each half second, however many are at work.
-    pub fn wait<R: Wait + Clock>(&self, rt: &R, job: Queued) -> bool {
-        self.queue(job.work).wait(rt, job.number)
+    /// Waits until a job is admitted, for so long at most, and says whether it is. One is in each half second, however many are at work.
+    pub fn wait<R: Wait + Clock>(&self, rt: &R, job: &Queued, limit: Duration) -> bool {
+        self.queue(job.work).wait(rt, job.number, limit)
     }
 
-    /// A job is done, or waits no longer.
-    pub fn leave<R: Wait + Clock>(&self, rt: &R, job: Queued) {
-        self.queue(job.work).leave(rt, job.number);
+    /// Takes a job out of its queue, which is done or waits no longer.
+    pub fn release<R: Wait + Clock>(&self, rt: &R, job: Queued) {
+        let Queued { work, number } = job;
+        self.queue(work).leave(rt, number);
     }
 }

@@ -2,7 +2,7 @@
 #![tactic(auto)]
 
 pub use items::GroupItems;
-pub use job_queue::JobQueue;
+pub use job_queue::{JobQueue, Queued};
 
 pub mod items;
 pub mod job_queue;

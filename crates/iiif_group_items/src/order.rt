@@ -1,8 +1,9 @@
 //! The jobs of a queue: who waits, and how many are at work.
 
 ghost use Rattle.std.specs.Prelude.{◌≡◌, ℕ, ◌+◌, ◌^◌, ◌<◌, ◌≤◌, ◌⊎◌, [], IfNone, IfSome, None, false, true, vec_capacity, vec_len};
-ghost use Rattle.iiif_group_items.specs.Turns.{HasRoom, IsLetIn, IsNext, WaitsAt, WaitsNoLonger, WaitsNot, WaitsToo, there};
+ghost use Rattle.iiif_group_items.specs.Turns.{HasRoom, IsLetIn, IsNext, WaitsAt, WaitsNoLonger, WaitsNot, WaitsToo, rank_of, there};
 
+use iiif_sum_group::StripedCondvar;
 use std::alloc::Global;
 
 /// By how many pixels of work less a job goes before one that came right before it. So each is passed over by so many at most.
@@ -13,6 +14,20 @@ const STEP: u64 = 4_194_304;
 pub(crate) struct Waiting {
     number: u64,
     rank: u64,
+}
+
+/// A job that was admitted as another left, and is still to be woken. It has no `Drop`, and `wake` alone consumes it: no such job is left
+/// asleep.
+pub(crate) struct Called {
+    number: u64,
+}
+
+impl Called {
+    /// Wakes the job.
+    pub(crate) fn wake(self, waiting: &StripedCondvar) {
+        let Called { number } = self;
+        let _woken = waiting.wake(number);
+    }
 }
 
 /// Where a job stands among those that wait. None where it isn't among them.
@@ -86,7 +101,7 @@ impl Order {
         ensures at_once { HasRoom self.old → result.1 ≡ true }
         ensures only { result.1 ≡ true → HasRoom self.old ⊎ (vec_capacity self.old.waiting ≤ vec_len self.old.waiting) }
         ensures let_in { result.1 ≡ true → self.new.waiting.items ≡ self.old.waiting.items }
-        ensures waits { result.1 ≡ false → WaitsToo self.old self.new result.0 }
+        ensures waits { result.1 ≡ false → WaitsToo self.old self.new result.0 (rank_of work result.0) }
         ensures counted { there self.old + 1 < 2 ^ 64 → there self.new ≡ there self.old + 1 }
     {
         let number = self.came;
@@ -143,9 +158,9 @@ impl Order {
         }
     }
 
-    /// A job is done, and the next one is let in: it says which. Or a job waits no longer, and none is let in.
-    pub(crate) fn leave(&mut self, number: u64) -> Option<u64>
-        ensures next { IfSome result (λ n. WaitsNot self.old.waiting.items number × IsLetIn self.old self.new n) }
+    /// A job is done, and the next one is let in, which is to be woken. Or a job waits no longer, and none is let in.
+    pub(crate) fn leave(&mut self, number: u64) -> Option<Called>
+        ensures next { IfSome result (λ c. WaitsNot self.old.waiting.items number × IsLetIn self.old self.new c.number) }
         ensures none { IfNone result (WaitsNoLonger self.old self.new number
             ⊎ ((self.old.waiting.items ≡ []) × (self.new.waiting.items ≡ []))) }
         ensures counted { there self.old + 1 < 2 ^ 64 → 0 < self.old.at_work → there self.new + 1 ≡ there self.old }
@@ -154,6 +169,9 @@ impl Order {
             return None;
         }
         self.at_work = self.at_work.saturating_sub(1);
-        self.let_next()
+        match self.let_next() {
+            Some(number) => Some(Called { number }),
+            None => None,
+        }
     }
 }

@@ -2,8 +2,7 @@
 #![tactic(auto)]
 
 pub use iiif_answers::{Cause, Config, ConfigFault, Cut, Part, Sent, is_base_url};
-pub use iiif_delivery::Queued;
-pub use iiif_group_items::JobQueue;
+pub use iiif_group_items::{JobQueue, Queued};
 pub use iiif_keys::{Fault, is_name};
 pub use iiif_sum_group::{Gate, Kept, Link, NoGate, NoLink, Note, Passes, SumCalls, TileCalls};
 pub use iiif_tile_group::{AddFault, Catalogue};

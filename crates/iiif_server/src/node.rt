@@ -20,7 +20,7 @@ use iiif_answers::message::{message_of, refusal_message};
 use iiif_answers::outcome::{Outcome, outcome_of};
 use iiif_answers::sending::{send_fault, send_message};
 use iiif_answers::{Cause, Config, Cut, Part, Sent};
-use iiif_assemble::{Job, Workshop};
+use iiif_assemble::{Job, RenderContext};
 use iiif_delivery::{Sending, Stopped, send_image};
 use iiif_group_items::laws::groups_serve_jobs;
 use iiif_group_items::{GroupItems, JobQueue};
@@ -249,7 +249,7 @@ impl<
         picture_is_shown(asked.entry);
         groups_serve_jobs::<J>(planned.job);
         let items = GroupItems(&self.groups, &self.queue);
-        let shop = Workshop {
+        let context = RenderContext {
             rt: host.rt,
             alloc: host.alloc,
             tiles: &items,
@@ -262,7 +262,7 @@ impl<
             kind: asked.accepted.kind,
             start: planned.head,
         };
-        match send_image(&shop, passes, &sending, out) {
+        match send_image(&context, passes, &sending, out) {
             Ok(delivered) => Ok(Sent {
                 status: 200,
                 bytes: delivered.bytes,

@@ -2,8 +2,8 @@
 
 use crate::fixtures::{has_start, is_missing, is_same, is_unwanted};
 use crate::request::pictures::{Failing, QUARTER, ROOM, Shown, UPRIGHT, job, of_samples, tens};
-use iiif_assemble::{Job, Made, Workshop, assemble, assemble_band};
-use iiif_planner::Band;
+use iiif_assemble::{Job, Made, RenderContext, assemble, assemble_band};
+use iiif_planner::{Band, bands};
 use iiif_keys::Fault;
 use iiif_pixel::{Depth, Dim, Raster, Samples, Span, Turn};
 use std::alloc::{AllocError, Global};
@@ -27,13 +27,13 @@ fn image<R: Threads + Wait + Sync>(
     workers: usize,
 ) -> Result<Made, Fault> {
     let mut passes = vec![in alloc; 0u64; workers.max(1)]?;
-    let shop = Workshop {
+    let context = RenderContext {
         rt,
         alloc,
         tiles: shown,
         sums: shown,
     };
-    assemble(&shop, &mut passes, job)
+    assemble(&context, &mut passes, job)
 }
 
 /// A wanted image, or its fault.
@@ -223,13 +223,13 @@ fn rows<R: Threads + Wait + Sync>(
     band: &Band,
 ) -> Result<Made, Fault> {
     let mut passes = vec![in alloc; 0u64; 1]?;
-    let shop = Workshop {
+    let context = RenderContext {
         rt,
         alloc,
         tiles: shown,
         sums: shown,
     };
-    assemble_band(&shop, &mut passes, job, band)
+    assemble_band(&context, &mut passes, job, band)
 }
 
 /// Whether a band of a job's image is this row, of two of the four tiles, and 4 to 8 samples were held for it.
@@ -252,7 +252,7 @@ fn is_row<R: Threads + Wait + Sync>(
 
 /// Whether the bands of a row of a job's image are those rows.
 fn are_rows<R: Threads + Wait + Sync>(rt: &R, alloc: Global, shown: &Shown, job: &Job) -> bool {
-    let Ok(bands) = job.bands(alloc, 1) else {
+    let Ok(bands) = bands(alloc, &job.resolved, &job.plan, 1) else {
         return false;
     };
     for (band, row) in bands.iter().zip(&ROWS) {

@@ -51,7 +51,7 @@ fn is_cut(alloc: Global, cut: &Cut) -> bool {
     let Some(job) = job(alloc, shape, 2, size, turn, ROOM) else {
         return false;
     };
-    match job.bands(alloc, 3) {
+    match bands(alloc, &job.resolved, &job.plan, 3) {
         Ok(bands) => are_two(&bands, side, rows, last),
         Err(fault) => is_unwanted(&fault),
     }

@@ -3,7 +3,7 @@
 use crate::fixtures::files::{STEPS, TURNED};
 use crate::fixtures::{is_missing, is_same};
 use crate::request::pictures::{Failing, QUARTER, Shown, UPRIGHT, job, of_samples, tens};
-use iiif_assemble::{Job, Workshop};
+use iiif_assemble::{Job, RenderContext};
 use iiif_delivery::{Delivered, Sending, Stopped, send_image};
 use iiif_io::Outlet;
 use iiif_keys::Fault;
@@ -77,7 +77,7 @@ fn send_to<R: Threads + Wait + Sync, W: Outlet>(
         return None;
     }
     let mut passes = vec![in alloc; 0u64; workers.max(1)].ok()?;
-    let shop = Workshop {
+    let context = RenderContext {
         rt,
         alloc,
         tiles: shown,
@@ -89,7 +89,7 @@ fn send_to<R: Threads + Wait + Sync, W: Outlet>(
         kind: OutKind::Gray,
         start: b"",
     };
-    let end = end_of(send_image(&shop, &mut passes, &sending, out));
+    let end = end_of(send_image(&context, &mut passes, &sending, out));
     let mut asks = 0u64;
     for pass in &passes {
         asks = asks.wrapping_add(*pass);

@@ -5,12 +5,13 @@ use crate::fixtures::rasters::is_scalable;
 use iiif_area::{Sums, meets};
 use iiif_assemble::{Items, Job, Opened};
 use iiif_canonical::Resolved;
-use iiif_delivery::{Queued, Turns};
+use iiif_delivery::Admission;
 use iiif_keys::{Fault, Name, Shape, SumKey, SumVal, TileKey, TileVal, is_name};
 use iiif_pixel::{Dim, Kind, Quality, Raster, Rect, Samples, Turn};
 use std::alloc::Global;
 use std::sync::Arc;
 use std::sync::atomic::{AtomicU64, Ordering};
+use std::time::Duration;
 
 /// Which items of a picture fail. Of tiles two do, of which the second fails otherwise: of four, in a row they are asked for in one turn
 /// of two workers.
@@ -81,6 +82,8 @@ impl<R> Items<TileKey, TileVal, u64, R> for Shown {
 
     ghost is_open = { λ s o k parts. Unit {0} };
 
+    ghost asked = { λ s old new. Unit {0} };
+
     fn open(
         &self,
         _rt: &R,
@@ -115,7 +118,7 @@ impl<R> Items<TileKey, TileVal, u64, R> for Shown {
         }
     }
 
-    fn is_at_hand(&self, _rt: &R, _key: &TileKey) -> bool {
+    fn is_cached(&self, _rt: &R, _key: &TileKey) -> bool {
         false
     }
 }
@@ -132,6 +135,8 @@ impl<R> Items<SumKey, SumVal, u64, R> for Shown {
     ghost rank = { λ s k. 0 };
 
     ghost is_open = { λ s o k parts. Unit {0} };
+
+    ghost asked = { λ s old new. Unit {0} };
 
     fn open(
         &self,
@@ -172,24 +177,34 @@ impl<R> Items<SumKey, SumVal, u64, R> for Shown {
         }
     }
 
-    fn is_at_hand(&self, _rt: &R, _key: &SumKey) -> bool {
+    fn is_cached(&self, _rt: &R, _key: &SumKey) -> bool {
         false
     }
 }
 
-/// Each job has its turn at once, or none has.
-impl<R> Turns<R> for Shown {
-    fn come(&self, _rt: &R, work: u64) -> Queued {
+/// A job in the queue of a picture.
+pub struct Queued {
+    work: u64,
+}
+
+/// Each job is admitted at once, or none is.
+impl<R> Admission<R> for Shown {
+    type Queued = Queued;
+
+    ghost work_of = { λ _ job. job.work };
+
+    fn enqueue(&self, _rt: &R, work: u64) -> Queued {
         self.queued.fetch_add(1, Ordering::SeqCst);
         self.turns.fetch_add(1, Ordering::SeqCst);
-        Queued { work, number: 0 }
+        Queued { work }
     }
 
-    fn wait(&self, _rt: &R, _job: Queued) -> bool {
+    fn wait(&self, _rt: &R, _job: &Queued, _limit: Duration) -> bool {
         !matches!(self.fails, Failing::Turn)
     }
 
-    fn leave(&self, _rt: &R, _job: Queued) {
+    fn release(&self, _rt: &R, job: Queued) {
+        let Queued { work: _work } = job;
         self.queued.fetch_sub(1, Ordering::SeqCst);
     }
 }

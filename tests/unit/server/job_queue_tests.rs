@@ -43,12 +43,17 @@ impl<'a, W> Clock for Ticking<'a, W> {
     }
 }
 
+/// Waits until a job is admitted, for 100 milliseconds at most, and says whether it is.
+fn wait<R: Wait + Clock>(rt: &R, queue: &JobQueue, job: &Queued) -> bool {
+    queue.wait(rt, job, Duration::from_millis(100))
+}
+
 /// Whether a job waits for as long as one does behind jobs that don't end, or for less than half of that: 500 milliseconds and 250. None
 /// where it waits longer, or the clock fails.
-fn is_late<R: Wait + Clock>(rt: &R, queue: &JobQueue, job: Queued) -> Option<bool> {
+fn is_late<R: Wait + Clock>(rt: &R, queue: &JobQueue, job: &Queued) -> Option<bool> {
     let begun = Instant::now(rt).ok()?;
     for _ in 0..20u32 {
-        if queue.wait(rt, job) {
+        if wait(rt, queue, job) {
             let passed = begun.elapsed(rt).ok()?;
             return Some(passed >= Duration::from_millis(250));
         }
@@ -56,14 +61,11 @@ fn is_late<R: Wait + Clock>(rt: &R, queue: &JobQueue, job: Queued) -> Option<boo
     None
 }
 
-/// Whether jobs that come one after another wait for so long, or don't.
-fn have_waited<R: Wait + Clock>(rt: &R, queue: &JobQueue, work: u64, waits: &[bool]) -> bool {
-    for wait in waits {
-        if !is_same(&is_late(rt, queue, queue.come(rt, work)), &Some(*wait)) {
-            return false;
-        }
-    }
-    true
+/// Enqueues a job, and says whether it is late, too.
+fn next<R: Wait + Clock>(rt: &R, queue: &JobQueue, work: u64) -> (Queued, Option<bool>) {
+    let job = queue.enqueue(rt, work);
+    let late = is_late(rt, queue, &job);
+    (job, late)
 }
 
 /// Two jobs are let in. None leaves, so the third and the fourth wait, and are let in all the same. Once three of the four have left, one
@@ -72,12 +74,24 @@ fn have_waited<R: Wait + Clock>(rt: &R, queue: &JobQueue, work: u64, waits: &[bo
 fn two_are_let_in_and_one_more_each_half_second(rt: HostRuntime) {
     let queue = JobQueue::new(rt.alloc(), 2, 1);
     let clock = Ticking::new(&rt);
-    assert!(rt; have_waited(&clock, &queue, LIGHT, &[false, false, true, true]));
-    for number in 0..3u64 {
-        let work = LIGHT;
-        queue.leave(&clock, Queued { work, number });
-    }
-    assert!(rt; have_waited(&clock, &queue, LIGHT, &[false, true]));
+    let (first, at_once) = next(&clock, &queue, LIGHT);
+    assert!(rt; is_same(&at_once, &Some(false)));
+    let (second, at_once) = next(&clock, &queue, LIGHT);
+    assert!(rt; is_same(&at_once, &Some(false)));
+    let (third, late) = next(&clock, &queue, LIGHT);
+    assert!(rt; is_same(&late, &Some(true)));
+    let (fourth, late) = next(&clock, &queue, LIGHT);
+    assert!(rt; is_same(&late, &Some(true)));
+    queue.release(&clock, first);
+    queue.release(&clock, second);
+    queue.release(&clock, third);
+    let (fifth, at_once) = next(&clock, &queue, LIGHT);
+    assert!(rt; is_same(&at_once, &Some(false)));
+    let (sixth, late) = next(&clock, &queue, LIGHT);
+    assert!(rt; is_same(&late, &Some(true)));
+    queue.release(&clock, fourth);
+    queue.release(&clock, fifth);
+    queue.release(&clock, sixth);
 }
 
 /// A light job waits for no heavy ones, of which one is let in.
@@ -85,11 +99,14 @@ fn two_are_let_in_and_one_more_each_half_second(rt: HostRuntime) {
 fn light_jobs_pass_heavy_ones(rt: HostRuntime) {
     let queue = JobQueue::new(rt.alloc(), 2, 1);
     let clock = Ticking::new(&rt);
-    let _own = queue.come(&clock, HEAVY);
-    let waits = queue.come(&clock, HEAVY);
-    let light = queue.come(&clock, LIGHT);
-    assert!(rt; is_same(&is_late(&clock, &queue, light), &Some(false)));
-    assert!(rt; !queue.wait(&clock, waits));
+    let own = queue.enqueue(&clock, HEAVY);
+    let waits = queue.enqueue(&clock, HEAVY);
+    let light = queue.enqueue(&clock, LIGHT);
+    assert!(rt; is_same(&is_late(&clock, &queue, &light), &Some(false)));
+    assert!(rt; !wait(&clock, &queue, &waits));
+    queue.release(&clock, own);
+    queue.release(&clock, waits);
+    queue.release(&clock, light);
 }
 
 /// Of two jobs that come while one is at work the first waits no longer. The second is let in as soon as that one has left.
@@ -97,12 +114,13 @@ fn light_jobs_pass_heavy_ones(rt: HostRuntime) {
 fn job_that_waits_no_longer_is_passed_over(rt: HostRuntime) {
     let queue = JobQueue::new(rt.alloc(), 1, 1);
     let clock = Ticking::new(&rt);
-    let own = queue.come(&clock, HEAVY);
-    let first = queue.come(&clock, HEAVY);
-    let second = queue.come(&clock, HEAVY);
-    queue.leave(&clock, first);
-    queue.leave(&clock, own);
-    assert!(rt; is_same(&is_late(&clock, &queue, second), &Some(false)));
+    let own = queue.enqueue(&clock, HEAVY);
+    let first = queue.enqueue(&clock, HEAVY);
+    let second = queue.enqueue(&clock, HEAVY);
+    queue.release(&clock, first);
+    queue.release(&clock, own);
+    assert!(rt; is_same(&is_late(&clock, &queue, &second), &Some(false)));
+    queue.release(&clock, second);
 }
 
 /// Of two that wait the one of less work is let in, though it came later; one that came much later isn't.
@@ -110,16 +128,17 @@ fn job_that_waits_no_longer_is_passed_over(rt: HostRuntime) {
 fn less_work_comes_first(rt: HostRuntime) {
     let queue = JobQueue::new(rt.alloc(), 1, 1);
     let clock = Ticking::new(&rt);
-    let own = queue.come(&clock, HEAVY);
-    let most = queue.come(&clock, HEAVY);
-    let less = queue.come(&clock, HEAVY / 2);
-    let same = queue.come(&clock, HEAVY - LIGHT);
-    queue.leave(&clock, own);
-    assert!(rt; is_same(&is_late(&clock, &queue, less), &Some(false)));
-    queue.leave(&clock, less);
-    assert!(rt; is_same(&is_late(&clock, &queue, most), &Some(false)));
-    queue.leave(&clock, most);
-    assert!(rt; is_same(&is_late(&clock, &queue, same), &Some(false)));
+    let own = queue.enqueue(&clock, HEAVY);
+    let most = queue.enqueue(&clock, HEAVY);
+    let less = queue.enqueue(&clock, HEAVY / 2);
+    let same = queue.enqueue(&clock, HEAVY - LIGHT);
+    queue.release(&clock, own);
+    assert!(rt; is_same(&is_late(&clock, &queue, &less), &Some(false)));
+    queue.release(&clock, less);
+    assert!(rt; is_same(&is_late(&clock, &queue, &most), &Some(false)));
+    queue.release(&clock, most);
+    assert!(rt; is_same(&is_late(&clock, &queue, &same), &Some(false)));
+    queue.release(&clock, same);
 }
 
 /// The host's clock, which tells whether it was read.
@@ -153,8 +172,9 @@ fn time_until_let_in<R: Threads + Wait + Clock + Sync>(
     rt: &R,
     queue: &JobQueue,
 ) -> Option<Duration> {
-    let own = queue.come(rt, HEAVY);
-    let next = queue.come(rt, HEAVY);
+    let own = queue.enqueue(rt, HEAVY);
+    let next = queue.enqueue(rt, HEAVY);
+    let mut own = Some(own);
     let clock = Watched {
         host: rt,
         is_read: AtomicBool::new(false),
@@ -163,7 +183,7 @@ fn time_until_let_in<R: Threads + Wait + Clock + Sync>(
         rt,
         || {
             let begun = Instant::now(rt).ok()?;
-            if queue.wait(&clock, next) {
+            if wait(&clock, queue, &next) {
                 begun.elapsed(rt).ok()
             } else {
                 None
@@ -173,10 +193,16 @@ fn time_until_let_in<R: Threads + Wait + Clock + Sync>(
             while !clock.is_read.load(Ordering::SeqCst) {
                 sleep(rt, Duration::from_millis(1));
             }
-            queue.leave(rt, own);
+            if let Some(own) = own.take() {
+                queue.release(rt, own);
+            }
         },
     );
-    queue.leave(rt, next);
+    match own {
+        Some(own) => queue.release(rt, own),
+        None => {}
+    }
+    queue.release(rt, next);
     took
 }
 

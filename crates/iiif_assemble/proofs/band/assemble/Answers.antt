@@ -30,8 +30,8 @@ returns-in-Ok g c =
       held = IfOk-weaker c.assemble_band.result _ _ (λ m held. subst (λ (q : Rect). IsHeldFor (sides_of q) n m.held) is held) done.held;
       fault = IfErr-weaker c.assemble_band.result _ _
           (λ f of_band.
-          plan_fault (g.A.Items.means c.args.shop.now.tiles.now) (g.A.Items.failed c.args.shop.now.tiles.now)
-          (g.B.Items.means c.args.shop.now.sums.now) (g.B.Items.failed c.args.shop.now.sums.now)
+          plan_fault (g.A.Items.means c.args.context.now.tiles.now) (g.A.Items.failed c.args.context.now.tiles.now)
+          (g.B.Items.means c.args.context.now.sums.now) (g.B.Items.failed c.args.context.now.sums.now)
           j.name j.edge j.shape.dim n c.requires.job.room r j.plan band.items.items f c.requires.job.quarters c.requires.job.inside
           c.requires.job.scalable.result_columns c.requires.job.scalable.result_rows c.requires.job.is_plan
           (subst (λ (q : Rect). ListsItems r j.plan q band.items.items) is c.in-Ok.ensures.band.items) of_band)

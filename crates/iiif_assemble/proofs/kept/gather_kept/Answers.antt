@@ -6,13 +6,13 @@ use Rattle.iiif_assemble.proofs.kept.gather_kept.Goals as goal
 
 pub index-requires : goal.index-requires
 index-requires g c =
-    let same = values_len arc_value (g.B.Items.means c.args.shop.now.sums.now) c.args.keys.now c.args.items.now c.in_ok-values.values.items
-    c.in_ok-values.ensures.values in
+    let same = values_len arc_value (g.B.Items.means c.args.context.now.sums.now) c.args.keys.now c.args.items.now
+    c.in_ok-values.values.items c.in_ok-values.ensures.values in
     omega (arith, same, c.loop-n-test.true)
 
 pub loop-n-preserved : goal.loop-n-preserved
 loop-n-preserved g c =
-    let means = g.B.Items.means c.args.shop.now.sums.now in
+    let means = g.B.Items.means c.args.context.now.sums.now in
     let k = c.index-keys-items.result in
     let v = c.index.result.now in
     let meant = value_at arc_value means c.args.keys.now c.args.items.now c.in_ok-values.values.items c.loop-n.n k v

@@ -20,7 +20,7 @@ gather_kept-requires-clause-within g c κs within =
 pub gather_kept-requires-clause-fits : goal.gather_kept-requires-clause-fits
 gather_kept-requires-clause-fits g c κs within =
     let j = c.args.job.now in
-    let fits = g.B.Items.fits c.args.shop.now.sums.now in
+    let fits = g.B.Items.fits c.args.context.now.sums.now in
     let of_plan = subst (λ (p : Plan). IsPlan j.name j.edge j.shape.dim (channels_of j.shape.kind) c.requires.job.room j.resolved p)
     c.in-Sum.is c.requires.job.is_plan in
     let level = of_plan.1 in

@@ -6,10 +6,9 @@ use Rattle.iiif_keys.specs.declared.keys.TileKey.{TileKey}
 use Rattle.iiif_planner.specs.Plans.{IsPlan, IsTileFor}
 use Rattle.iiif_planner.specs.declared.plans.Plan.{Plan}
 use Rattle.iiif_planner.specs.Bands.{tile_places, ListsItems, ReachesInto}
-use Rattle.iiif_assemble.specs.Code.{tile_in}
 use Rattle.iiif_assemble.specs.Gathering.{IsItemFault}
-use Rattle.iiif_assemble.specs.Lone.{IsTileImage, IsTileItself, IsTilesFault}
-use Rattle.iiif_assemble.proofs.TileLemmas.{if_some, last_value, those_within, tile_image}
+use Rattle.iiif_assemble.specs.Lone.{IsTileItself, IsTilesFault}
+use Rattle.iiif_assemble.proofs.TileLemmas.{last_value, those_within, tile_image}
 use Rattle.iiif_assemble.proofs.lone.lone_tile.Goals as goal
 
 pub gather-requires-clause-within : goal.gather-requires-clause-within
@@ -23,8 +22,8 @@ gather-requires-clause-within g c κs within =
     let all_items = subst (λ (js : List ℕ). All (λ i. i < length keys) js) (sym c.deref-2.ensures.value) all in
     subst (λ (ks : List TileKey). All (λ i. i < length ks) c.deref-2.result.now) (sym c.deref.ensures.value) all_items
 
-pub returns-in-Ok-gather-clause-image : goal.returns-in-Ok-gather-clause-image
-returns-in-Ok-gather-clause-image g c =
+pub returns-in-Some-clause-image : goal.returns-in-Some-clause-image
+returns-in-Some-clause-image g c =
     let j = c.args.job.now in
     let tm = g.A.Items.means c.args.tiles.now in
     let keys = c.deref.result.now in
@@ -39,15 +38,14 @@ returns-in-Ok-gather-clause-image g c =
     (sym c.deref.ensures.value) planned.1.tiles in
     let of_key : IsTileFor j.name j.edge j.shape.dim channels j.resolved.rect key =
     subst (IsTileFor j.name j.edge j.shape.dim channels j.resolved.rect) first (tiles 0 key (omega (arith, one))) in
-    if_some c.pop.result (λ v. IsTileImage j tm (tile_in (arc_value v)))
-    (λ a is.
+    let a = c.in-Some.value in
     let last : c.in-Ok-gather.values.items ≡ c.pop.new.self.items ++ a ∷ [] = c.pop.ensures.items ∙
-    ap (λ o. c.pop.new.self.items ++ option_to_list o) is in
+    ap (λ o. c.pop.new.self.items ++ option_to_list o) c.in-Some.is in
     let meant = last_value arc_value tm keys c.deref-2.result.now c.in-Ok-gather.values.items c.pop.new.self.items key a one first
     c.in-Ok-gather.ensures.values last in
     tile_image c.whole_stays_whole.ensures.crop c.same_sides_change_nothing.ensures j tm key (arc_value a) c.requires.job itself planned.0
     of_key.named
-    (c.requires.tiles.shaped key (arc_value a) of_key meant) meant)
+    (c.requires.tiles.shaped key (arc_value a) of_key meant) meant
 
 pub returns-clause-fault : goal.returns-clause-fault
 returns-clause-fault g c =

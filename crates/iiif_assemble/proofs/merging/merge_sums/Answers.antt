@@ -25,13 +25,13 @@ pub gather-requires-clause-fits : goal.gather-requires-clause-fits
 gather-requires-clause-fits g c κs within =
     let planned = IsBlockFor c.args.job.now.name c.args.job.now.edge c.args.job.now.shape.dim (channels_of c.args.job.now.shape.kind)
     c.args.job.now.resolved.rect c.args.job.now.resolved.size c.requires.cover.0 in
-    All-weaker planned (g.B.Items.fits c.args.shop.now.sums.now) (λ k b. (c.requires.serves c.requires.cover.0).asked k b) c.args.keys.now
-    c.requires.cover.1.blocks
+    All-weaker planned (g.B.Items.fits c.args.context.now.sums.now) (λ k b. (c.requires.serves c.requires.cover.0).asked k b)
+    c.args.keys.now c.requires.cover.1.blocks
 
 pub made_of-requires-clause-channels : goal.made_of-requires-clause-channels
 made_of-requires-clause-channels g c κs within =
     let channels = channels_of c.args.job.now.shape.kind in
-    let means = g.B.Items.means c.args.shop.now.sums.now in
+    let means = g.B.Items.means c.args.context.now.sums.now in
     let P : SumVal → Type 0 = λ v. (sums_in v).channels ≡ channels in
     let planned = IsBlockFor c.args.job.now.name c.args.job.now.edge c.args.job.now.shape.dim channels c.args.job.now.resolved.rect
     c.args.job.now.resolved.size c.requires.cover.0 in
@@ -50,7 +50,7 @@ returns-clause-image g c =
     let top = top_of c.args.job.now.shape.depth in
     let from = c.args.from in
     let keys = c.args.keys.now in
-    let means = g.B.Items.means c.args.shop.now.sums.now in
+    let means = g.B.Items.means c.args.context.now.sums.now in
     let values = map arc_value c.in_ok-values.values.items in
     let planned = IsBlockFor c.args.job.now.name c.args.job.now.edge image channels region size c.requires.cover.0 in
     let each = All-weaker planned (IsFor region size) (λ k b. record { rect = b.of_region; to_size = b.to_size }) keys

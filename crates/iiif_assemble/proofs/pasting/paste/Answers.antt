@@ -34,7 +34,7 @@ pub picture_of-requires-clause-shaped : goal.picture_of-requires-clause-shaped
 picture_of-requires-clause-shaped g c =
     let image = c.args.job.now.shape.dim in
     let channels = channels_of c.args.job.now.shape.kind in
-    let means = g.A.Items.means c.args.shop.now.tiles.now in
+    let means = g.A.Items.means c.args.context.now.tiles.now in
     let shape : TileKey → TileVal → Type 0 = λ k v. TileHasShape c.args.job.now.shape k v in
     let planned = IsTileFor c.args.job.now.name c.args.job.now.edge image channels c.args.job.now.resolved.rect in
     let each = All-weaker planned (λ (k : TileKey). (v : TileVal) → means k v → shape k v) (λ k b v m. c.requires.serves.shaped k v b m)
@@ -52,7 +52,7 @@ returns-clause-image g c shows p shown are_meant =
     let keys = c.args.keys.now in
     let items = c.args.items.now in
     let part = nested region from in
-    let means = g.A.Items.means c.args.shop.now.tiles.now in
+    let means = g.A.Items.means c.args.context.now.tiles.now in
     let picture = c.in_ok-raster.raster in
     let x : TileKey = record { name = []; edge = 0; tx = 0; ty = 0 } in
     let planned = IsTileFor c.args.job.now.name c.args.job.now.edge image channels region in

@@ -7,16 +7,17 @@ pub returns-in-Some : goal.returns-in-Some
 returns-in-Some g c =
     let s = c.args.sending.now in
     let j = s.job.now in
-    let tm = g.A.Items.means c.args.shop.now.tiles.now in
-    let tf = g.A.Items.failed c.args.shop.now.tiles.now in
-    let sm = g.B.Items.means c.args.shop.now.sums.now in
-    let sf = g.B.Items.failed c.args.shop.now.sums.now in
+    let tm = g.A.Items.means c.args.context.now.tiles.now in
+    let tf = g.A.Items.failed c.args.context.now.tiles.now in
+    let sm = g.B.Items.means c.args.context.now.sums.now in
+    let sf = g.B.Items.failed c.args.context.now.sums.now in
     let may = c.requires.sending in
     record {
       whole = IfOk-weaker c.in-Some.result _ _
           (λ d sent shows has source. (sent.0, image_for shows j tm sm sent.0 has source sent.1, sent.2, sent.3))
           c.in-Some.ensures.whole;
       held = c.in-Some.ensures.held;
+      buffered = c.in-Some.ensures.buffered;
       stopped = IfErr-weaker c.in-Some.result _ _
           (λ e stops.
           tile_stopped c.laws_of_bands.ensures g.W.Write.contents g.W.Outlet.fails j tm tf sm s.kind s.rows s.start.now c.args.out.now

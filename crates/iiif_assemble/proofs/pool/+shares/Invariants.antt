@@ -1,5 +1,5 @@
 use Rattle.std.proofs.Common.{◌*◌, ◌+◌, length}
-use Rattle.iiif_assemble.proofs.crew.+shares.Given as goal
+use Rattle.iiif_assemble.proofs.pool.+shares.Given as goal
 
 -- each of two workers has fewer items than both
 abbrev pub decreases-share_out : goal.decreases-share_out

@@ -1,11 +1,11 @@
 use Rattle.std.proofs.Common.{arith}
 use Rattle.std.proofs.lemmas.Result.{IfOk-weaker}
-use Rattle.iiif_assemble.proofs.JobLemmas.{bands_of}
+use Rattle.iiif_assemble.proofs.JobLemmas.{band_of}
 use Rattle.iiif_pixel.specs.Geometry.{channels_of}
-use Rattle.iiif_assemble.proofs.job.Job.bands.Goals as goal
+use Rattle.iiif_assemble.proofs.job.Job.band.Goals as goal
 
-pub bands-requires-clause-plan : goal.bands-requires-clause-plan
-bands-requires-clause-plan c = record {
+pub band_at-requires-clause-plan : goal.band_at-requires-clause-plan
+band_at-requires-clause-plan c = record {
   name = c.args.self.now.name;
   edge = c.args.self.now.edge;
   image = c.args.self.now.shape.dim;
@@ -16,8 +16,7 @@ bands-requires-clause-plan c = record {
   is_plan = c.requires.job.is_plan;
 }
 
-pub returns-clause-each : goal.returns-clause-each
-returns-clause-each c =
+pub returns-clause-band : goal.returns-clause-band
+returns-clause-band c =
     let j = c.args.self.now in
-    IfOk-weaker c.bands.result _ _ (λ bs are. bands_of j c.args.rows bs.items c.requires.rows c.bands_cut_results.ensures.low are)
-    c.bands.ensures
+    IfOk-weaker c.band_at.result _ _ (λ b is. band_of j c.args.rows c.args.i b c.requires.rows c.requires.index is) c.band_at.ensures.band

@@ -7,10 +7,10 @@ ghost use Rattle.iiif_keys.specs.declared.fault.Fault.TheVariants as Fault;
 ghost use Rattle.iiif_assemble.specs.Gathering.{AreValues, IsItemFault};
 ghost use denote.Param.Send.{IsSync};
 
+use crate::idle::{IdleWorkers, Worker};
 use crate::items::Items;
-use crate::parts::{Crew, ask};
+use crate::parts::{Pool, ask};
 use iiif_keys::Fault;
-use iiif_workers::{Helper, Idle};
 use std::alloc::Global;
 use std::sync::{Arc, Wait};
 use std::thread::{Threads, join};
@@ -27,7 +27,7 @@ pub(crate) fn keep<V: Drop>(values: &mut Vec<Arc<V>>, value: Arc<V>) -> Result<(
 }
 
 /// One list of values behind another.
-pub(crate) fn joined<V: Drop>(
+pub(crate) fn concat<V: Drop>(
     mut first: Vec<Arc<V>>,
     rest: Vec<Arc<V>>,
 ) -> Result<Vec<Arc<V>>, Fault>
@@ -40,16 +40,17 @@ pub(crate) fn joined<V: Drop>(
     Ok(first)
 }
 
-/// What one worker came to.
-struct SoFar<'a, V, P> {
-    /// The values of the first items, as far as it came.
+/// The progress of one worker.
+struct SoFar<'x, 'a, V, P, R: Wait> {
+    /// The values of the first items.
     values: Vec<Arc<V>>,
-    /// Another worker, which had nothing to do where more than one item was left. None where none is.
-    helper: Option<Helper<'a, P>>,
+    /// An idle worker that was taken to help, as more than one item was left. None where all have their values.
+    worker: Option<Worker<'x, 'a, P, R>>,
 }
 
 /// The values of items, asked one after another until more than one is left and another worker has nothing to do; or the first fault.
 fn begin<
+    'x,
     'a,
     G: Items<K, V, P, R> + Sync,
     K: Sync,
@@ -57,38 +58,40 @@ fn begin<
     P: Send,
     R: Threads + Wait + Sync,
 >(
-    crew: &Crew<'_, 'a, G, P, R>,
+    pool: &Pool<'x, 'a, G, P, R>,
     own: &mut P,
     keys: &[K],
     items: &[usize],
-) -> Result<SoFar<'a, V, P>, Fault>
+) -> Result<SoFar<'x, 'a, V, P, R>, Fault>
     requires within { All (λ i. i < length keys.now) items.now }
-    requires fits { All (G.fits crew.now.group.now) keys.now }
-    ensures left { IfOk result (λ b. IfSome b.helper (λ h. vec_len b.values + 2 ≤ length items.now)) }
-    ensures all { IfOk result (λ b. IsNone b.helper → vec_len b.values ≡ length items.now) }
-    ensures values { IfOk result (λ b. AreValues (G.means crew.now.group.now) keys.now (take (vec_len b.values) items.now)
+    requires fits { All (G.fits pool.now.group.now) keys.now }
+    ensures left { IfOk result (λ b. IfSome b.worker (λ h. vec_len b.values + 2 ≤ length items.now)) }
+    ensures all { IfOk result (λ b. IsNone b.worker → vec_len b.values ≡ length items.now) }
+    ensures values { IfOk result (λ b. AreValues (G.means pool.now.group.now) keys.now (take (vec_len b.values) items.now)
         (map arc_value b.values.items)) }
-    ensures fault { IfErr result (IsItemFault (G.means crew.now.group.now) (G.failed crew.now.group.now) keys.now items.now) }
+    ensures fault { IfErr result (IsItemFault (G.means pool.now.group.now) (G.failed pool.now.group.now) keys.now items.now) }
 {
-    let mut values = Vec::new(crew.alloc);
+    let mut values = Vec::new(pool.alloc);
     for n in 0..items.len() {
         let key = &keys[items[n]];
-        if items.len() - n > 1 && !crew.group.is_at_hand(crew.rt, key) {
-            if let Some(helper) = crew.idle.take(crew.rt) {
+        // A worker that is alone takes no lock to see whether help would pay.
+        let may_share = items.len() - n > 1 && !pool.idle.is_empty();
+        if may_share && !pool.group.is_cached(pool.rt, key) {
+            if let Some(worker) = pool.idle.take(pool.rt) {
                 return Ok(SoFar {
                     values,
-                    helper: Some(helper),
+                    worker: Some(worker),
                 });
             }
         }
-        match ask(crew, own, key) {
+        match ask(pool, own, key) {
             Ok(value) => keep(&mut values, value)?,
             Err(fault) => return Err(fault),
         }
     }
     Ok(SoFar {
         values,
-        helper: None,
+        worker: None,
     })
 }
 
@@ -103,23 +106,23 @@ fn share_out<
     P: Send,
     R: Threads + Wait + Sync,
 >(
-    crew: &Crew<'_, '_, G, P, R>,
+    pool: &Pool<'_, '_, G, P, R>,
     own: &mut P,
     keys: &[K],
     items: &[usize],
 ) -> Result<Vec<Arc<V>>, Fault>
     requires within { All (λ i. i < length keys.now) items.now }
-    requires fits { All (G.fits crew.now.group.now) keys.now }
-    ensures values { IfOk result (λ v. AreValues (G.means crew.now.group.now) keys.now items.now (map arc_value v.items)) }
-    ensures fault { IfErr result (IsItemFault (G.means crew.now.group.now) (G.failed crew.now.group.now) keys.now items.now) }
+    requires fits { All (G.fits pool.now.group.now) keys.now }
+    ensures values { IfOk result (λ v. AreValues (G.means pool.now.group.now) keys.now items.now (map arc_value v.items)) }
+    ensures fault { IfErr result (IsItemFault (G.means pool.now.group.now) (G.failed pool.now.group.now) keys.now items.now) }
 {
-    let SoFar { values, helper } = begin(crew, own, keys, items)?;
-    let Some(helper) = helper else {
+    let SoFar { values, worker } = begin(pool, own, keys, items)?;
+    let Some(worker) = worker else {
         return Ok(values);
     };
     let (_done, left) = items.split_at(values.len());
-    match halve(crew, own, helper, keys, left) {
-        Ok(rest) => joined(values, rest),
+    match halve(pool, own, worker, keys, left) {
+        Ok(rest) => concat(values, rest),
         Err(fault) => Err(fault),
     }
 }
@@ -134,41 +137,41 @@ fn halve<
     P: Send,
     R: Threads + Wait + Sync,
 >(
-    crew: &Crew<'_, 'a, G, P, R>,
+    pool: &Pool<'_, 'a, G, P, R>,
     own: &mut P,
-    helper: Helper<'a, P>,
+    worker: Worker<'_, 'a, P, R>,
     keys: &[K],
     items: &[usize],
 ) -> Result<Vec<Arc<V>>, Fault>
     requires some { 2 ≤ length items.now }
     requires within { All (λ i. i < length keys.now) items.now }
-    requires fits { All (G.fits crew.now.group.now) keys.now }
-    ensures values { IfOk result (λ v. AreValues (G.means crew.now.group.now) keys.now items.now (map arc_value v.items)) }
-    ensures fault { IfErr result (IsItemFault (G.means crew.now.group.now) (G.failed crew.now.group.now) keys.now items.now) }
+    requires fits { All (G.fits pool.now.group.now) keys.now }
+    ensures values { IfOk result (λ v. AreValues (G.means pool.now.group.now) keys.now items.now (map arc_value v.items)) }
+    ensures fault { IfErr result (IsItemFault (G.means pool.now.group.now) (G.failed pool.now.group.now) keys.now items.now) }
 {
-    // The larger half, as who ends first waits, while a helper that ends first helps again.
+    // The larger half, as who ends first waits, while a worker that ends first helps again.
     let half = items.len() - items.len() / 2;
     let (mine, theirs) = items.split_at(half);
-    // The helper has the thread that is started, so this worker goes on at once.
+    // The worker has the thread that is started, so this worker goes on at once.
     let (rest, first) = join(
-        crew.rt,
+        pool.rt,
         || -> Result<Vec<Arc<V>>, Fault>
-            requires { IsSync R.row × All (λ i. i < length keys.now) theirs.now × All (G.fits crew.now.group.now) keys.now }
-            ensures { IfOk result (λ v. AreValues (G.means crew.entry.now.group.now) keys.entry.now theirs.entry.now
+            requires { IsSync R.row × All (λ i. i < length keys.now) theirs.now × All (G.fits pool.now.group.now) keys.now }
+            ensures { IfOk result (λ v. AreValues (G.means pool.entry.now.group.now) keys.entry.now theirs.entry.now
                 (map arc_value v.items))
-                × IfErr result (IsItemFault (G.means crew.entry.now.group.now) (G.failed crew.entry.now.group.now) keys.entry.now
+                × IfErr result (IsItemFault (G.means pool.entry.now.group.now) (G.failed pool.entry.now.group.now) keys.entry.now
                 theirs.entry.now) }
-        { help(crew, helper, keys, theirs) },
+        { help(pool, worker, keys, theirs) },
         || -> Result<Vec<Arc<V>>, Fault>
-            requires { IsSync R.row × All (λ i. i < length keys.now) mine.now × All (G.fits crew.now.group.now) keys.now }
-            ensures { IfOk result (λ v. AreValues (G.means crew.entry.now.group.now) keys.entry.now mine.entry.now (map arc_value v.items))
-                × IfErr result (IsItemFault (G.means crew.entry.now.group.now) (G.failed crew.entry.now.group.now) keys.entry.now
+            requires { IsSync R.row × All (λ i. i < length keys.now) mine.now × All (G.fits pool.now.group.now) keys.now }
+            ensures { IfOk result (λ v. AreValues (G.means pool.entry.now.group.now) keys.entry.now mine.entry.now (map arc_value v.items))
+                × IfErr result (IsItemFault (G.means pool.entry.now.group.now) (G.failed pool.entry.now.group.now) keys.entry.now
                 mine.entry.now) }
-        { share_out(crew, own, keys, mine) },
+        { share_out(pool, own, keys, mine) },
     );
     match first {
         Ok(first) => match rest {
-            Ok(rest) => joined(first, rest),
+            Ok(rest) => concat(first, rest),
             Err(later) => Err(later),
         },
         Err(earlier) => Err(earlier),
@@ -185,23 +188,24 @@ fn help<
     P: Send,
     R: Threads + Wait + Sync,
 >(
-    crew: &Crew<'_, 'a, G, P, R>,
-    mut helper: Helper<'a, P>,
+    pool: &Pool<'_, 'a, G, P, R>,
+    mut worker: Worker<'_, 'a, P, R>,
     keys: &[K],
     items: &[usize],
 ) -> Result<Vec<Arc<V>>, Fault>
     requires within { All (λ i. i < length keys.now) items.now }
-    requires fits { All (G.fits crew.now.group.now) keys.now }
-    ensures values { IfOk result (λ v. AreValues (G.means crew.now.group.now) keys.now items.now (map arc_value v.items)) }
-    ensures fault { IfErr result (IsItemFault (G.means crew.now.group.now) (G.failed crew.now.group.now) keys.now items.now) }
+    requires fits { All (G.fits pool.now.group.now) keys.now }
+    ensures values { IfOk result (λ v. AreValues (G.means pool.now.group.now) keys.now items.now (map arc_value v.items)) }
+    ensures fault { IfErr result (IsItemFault (G.means pool.now.group.now) (G.failed pool.now.group.now) keys.now items.now) }
 {
-    let values = share_out(crew, helper.pass, keys, items);
-    crew.idle.put(crew.rt, helper);
+    let values = share_out(pool, worker.pass(), keys, items);
+    // Idle again.
+    drop(worker);
     values
 }
 
 /// Whether all items are at hand.
-fn are_at_hand<G: Items<K, V, P, R>, K, V, P, R>(
+fn are_cached<G: Items<K, V, P, R>, K, V, P, R>(
     rt: &R,
     group: &G,
     keys: &[K],
@@ -209,7 +213,7 @@ fn are_at_hand<G: Items<K, V, P, R>, K, V, P, R>(
 ) -> bool {
     for item in items {
         match keys.get(*item) {
-            Some(key) if group.is_at_hand(rt, key) => {}
+            Some(key) if group.is_cached(rt, key) => {}
             _ => return false,
         }
     }
@@ -227,7 +231,7 @@ fn gather_by_crew<
     rt: &R,
     alloc: Global,
     group: &G,
-    idle: &Idle<'_, P>,
+    idle: &IdleWorkers<'_, P>,
     own: &mut P,
     asked: (&[K], &[usize]),
 ) -> Result<Vec<Arc<V>>, Fault>
@@ -237,13 +241,13 @@ fn gather_by_crew<
     ensures fault { IfErr result (IsItemFault (G.means group.now) (G.failed group.now) asked.entry.0.now asked.entry.1.now) }
 {
     let (keys, items) = asked;
-    let crew = Crew {
+    let pool = Pool {
         rt,
         alloc,
         group,
         idle,
     };
-    share_out(&crew, own, keys, items)
+    share_out(&pool, own, keys, items)
 }
 
 /// The values of all items, in their order, asked by one worker for each pass: by the first alone where all are at hand, so that no thread
@@ -275,11 +279,11 @@ pub(crate) fn gather<
     let Some((own, others)) = passes.split_first_mut() else {
         return Err(Fault::NoMemory);
     };
-    if others.is_empty() || are_at_hand(rt, group, keys, items) {
-        let idle = Idle::none(alloc);
+    if others.is_empty() || are_cached(rt, group, keys, items) {
+        let idle = IdleWorkers::empty(alloc);
         return gather_by_crew(rt, alloc, group, &idle, own, (keys, items));
     }
-    let Ok(idle) = Idle::of(alloc, others) else {
+    let Ok(idle) = IdleWorkers::new(alloc, others) else {
         return Err(Fault::NoMemory);
     };
     gather_by_crew(rt, alloc, group, &idle, own, (keys, items))

@@ -4,7 +4,7 @@ use std::alloc::Global;
 
 /// Where images are made: who has the values of tiles and of sums, and what it takes to ask for them.
 #[derive(Drop)]
-pub struct Workshop<'a, A, B, R> {
+pub struct RenderContext<'a, A, B, R> {
     /// The runtime.
     pub rt: &'a R,
     /// What memory is taken of.
