@@ -17,15 +17,16 @@ use iiif_delivery::Admission;
 use iiif_keys::laws::parts_are_exact;
 use iiif_keys::{Fault, SumKey, SumVal, System, TileKey, TileVal};
 use iiif_source::Source;
-use iiif_sum_group::{Begun, Gate, Groups, Link, Open, Passes, SumCalls, TileCalls, take_outcome};
+use iiif_sum_group::{Begun, Gate, Handle, Link, Open, Passes, SumCalls, TileCalls, take_outcome};
 use std::sync::ledger::Ledger;
 use std::sync::{Arc, Wait};
 use std::time::{Clock, Duration};
 
-/// The groups of a node, as images are made of what they have, and who may make sums now.
+/// The groups of a node, as images are made of what they have, and who may make sums now. By a handle nothing is loaded but behind a call
+/// that entered its group.
 #[derive(Drop)]
 pub struct GroupItems<'a, R, S: Source<R>, J: System, N, T>(
-    pub &'a Groups<R, S, J, N, T>,
+    pub Handle<'a, R, S, J, N, T>,
     pub &'a JobQueue,
 )
 where
@@ -76,7 +77,7 @@ impl<
         pass: &mut Passes<J>,
         key: &TileKey,
     ) -> Result<Opened<TileKey, TileVal, ()>, Fault> {
-        match self.0.tiles().get(rt, &mut pass.tile, key) {
+        match self.0.get_tile(rt, &mut pass.tile, key) {
             Ok(receipt) => known(take_outcome(receipt, key)),
             Err(fault) => Err(fault),
         }
@@ -107,7 +108,7 @@ impl<
     }
 
     fn is_cached(&self, rt: &R, key: &TileKey) -> bool {
-        self.0.tiles().group().holds(rt, key)
+        self.0.tiles().holds(rt, key)
     }
 }
 

@@ -30,7 +30,7 @@ use iiif_keys::{SumKey, System, TileKey};
 use iiif_pixel::NoMemory;
 use iiif_request::Refusal;
 use iiif_source::Source;
-use iiif_sum_group::{Gate, Groups, Link, NoGate, NoLink, Passes, SumCalls, TileCalls, Tiles};
+use iiif_sum_group::{Gate, Groups, Handle, Link, NoGate, NoLink, Passes, SumCalls, TileCalls, Tiles};
 use iiif_tile_group::{Catalogue, ImageEntry, Images};
 use std::alloc::{AllocError, Global};
 use std::marker::Model;
@@ -248,7 +248,7 @@ impl<
         // Laws of images and of groups.
         picture_is_shown(asked.entry);
         groups_serve_jobs::<J>(planned.job);
-        let items = GroupItems(&self.groups, &self.queue);
+        let items = GroupItems(Handle::new(&self.groups), &self.queue);
         let context = RenderContext {
             rt: host.rt,
             alloc: host.alloc,
