@@ -22,3 +22,4 @@ mod peers;
 mod run_tests;
 mod runs;
 mod scenes;
+mod two_nodes_tests;

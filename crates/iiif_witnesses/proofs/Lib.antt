@@ -1,1 +1,2 @@
 mod StableLemmas
+mod ShownLemmas

@@ -1,11 +1,14 @@
-//! Links over memory to a node of the same process, which promise that node's values, and the main clauses of the groups of a node that
-//! asks by them. `honest` may be true there, and nothing is assumed of any run.
+//! Systems in which each premise of a group's main clauses holds: two nodes of one process over one image in memory, one of which asks the
+//! other. `honest` and `stable` are true there, so what [`ask_tile`] and [`ask_sums`] promise has no premise left.
 #![tactic(auto)]
 
 pub use by_two::{get_sums_by_two, get_tile_by_two};
 pub use near::NearLink;
 pub use other::OtherLink;
+pub use pair::{Answer, PairFault, ask_sums, ask_tile};
 
 pub mod by_two;
 pub mod near;
+mod nodes;
 pub mod other;
+pub mod pair;
