@@ -74,7 +74,7 @@ fn held_metrics(held: Held) -> HeldMetrics
 
 impl<'a, R: Opens + Wait, J: System, N, T> Measure<R> for Statistics<'a, R, J, N, T> {
     fn measure(&self, rt: &R) -> Metrics {
-        let tiles = self.node.groups().tiles().group();
+        let tiles = self.node.groups().tiles();
         let sums = self.node.groups().sums();
         Metrics {
             tiles: cache_metrics(tiles.book(rt), tiles.kept(rt)),

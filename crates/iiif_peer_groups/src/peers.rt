@@ -15,7 +15,7 @@ use iiif_peer_server::Answers;
 use iiif_peer_wire::{Ask, Version};
 use iiif_pixel::Depth;
 use iiif_source::Source;
-use iiif_sum_group::{Gate, Groups, Link, Passes, SumCalls, TileCalls};
+use iiif_sum_group::{Gate, Handle, Link, Passes, SumCalls, TileCalls};
 use std::alloc::Global;
 use std::sync::Wait;
 use std::sync::ledger::Ledger;
@@ -27,7 +27,7 @@ where
     TileCalls<J>: Ledger,
     SumCalls<J>: Ledger,
 {
-    pub groups: &'a Groups<R, S, J, N, T>,
+    pub groups: Handle<'a, R, S, J, N, T>,
 }
 
 impl<
@@ -47,7 +47,7 @@ impl<
         ensures refused { IfErr result (IsKeyFault J.pictures J.edge (K.name_of key.now) (K.edge_of key.now)
             (λ s. K.fits_in s key.now × Carries version s.depth)) }
     {
-        let (_entry, shape) = self.groups.tiles().images().image_of(key)?;
+        let (_entry, shape) = self.groups.images().image_of(key)?;
         match (version, shape.depth) {
             (Version::One, Depth::Sixteen) => Err(Fault::BadKey),
             _ => Ok(shape),
@@ -70,7 +70,7 @@ impl<
     {
         let key: TileKey = key_of(alloc, bytes)?;
         let shape = self.shape_of(version, &key)?;
-        let receipt = self.groups.tiles().get_local(rt, &mut passes.tile, &key)?;
+        let receipt = self.groups.get_tile_local(rt, &mut passes.tile, &key)?;
         value_bytes(alloc, &key, &shape, receipt)
     }
 

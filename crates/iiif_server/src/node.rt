@@ -30,7 +30,9 @@ use iiif_keys::{SumKey, System, TileKey};
 use iiif_pixel::NoMemory;
 use iiif_request::Refusal;
 use iiif_source::Source;
-use iiif_sum_group::{Gate, Groups, Handle, Link, NoGate, NoLink, Passes, SumCalls, TileCalls, Tiles};
+use iiif_sum_group::{
+    Gate, Groups, Handle, Link, NoGate, NoLink, Passes, SumCalls, TileCalls, Tiles,
+};
 use iiif_tile_group::{Catalogue, ImageEntry, Images};
 use std::alloc::{AllocError, Global};
 use std::marker::Model;
@@ -117,9 +119,9 @@ impl<R, S: Source<R> + Drop, J: System, N, T> Node<R, S, J, N, T> {
         })
     }
 
-    /// Its groups of tiles and sums.
-    pub fn groups(&self) -> &Groups<R, S, J, N, T> {
-        &self.groups
+    /// Returns a handle to the groups of tiles and sums, by which nothing is loaded past them.
+    pub fn groups(&self) -> Handle<'_, R, S, J, N, T> {
+        Handle::new(&self.groups)
     }
 
     /// Its images.
@@ -248,7 +250,7 @@ impl<
         // Laws of images and of groups.
         picture_is_shown(asked.entry);
         groups_serve_jobs::<J>(planned.job);
-        let items = GroupItems(Handle::new(&self.groups), &self.queue);
+        let items = GroupItems(self.groups(), &self.queue);
         let context = RenderContext {
             rt: host.rt,
             alloc: host.alloc,

@@ -115,7 +115,7 @@ fn counted<R: Opens + Wait, J: System, N>(
     node: &Node<R, Stored<R>, J, N>,
     watcher: &Watcher,
 ) -> Counts {
-    let tiles = node.groups().tiles().group().book(rt);
+    let tiles = node.groups().tiles().book(rt);
     let sums = node.groups().sums().book(rt);
     let whole = watcher.tally.counts(rt).whole;
     Counts {
@@ -134,7 +134,7 @@ fn are_home<R: Opens + Wait, J: System, N>(
     node: &Node<R, Stored<R>, J, N>,
 ) -> bool {
     let groups = node.groups();
-    groups.tiles().group().gather(rt, Vec::new(alloc)).is_ok()
+    groups.tiles().gather(rt, Vec::new(alloc)).is_ok()
         && groups.sums().gather(rt, Vec::new(alloc)).is_ok()
 }
 

@@ -16,7 +16,7 @@ use iiif_listener::{Serve, Visit};
 use iiif_peer_groups::Peers;
 use iiif_peer_server::serve_peer;
 use iiif_source::Source;
-use iiif_sum_group::{Passes, SumCalls, TileCalls};
+use iiif_sum_group::{Handle, Passes, SumCalls, TileCalls};
 use std::alloc::Global;
 use std::net::{Net, TcpListener, TcpStream};
 use std::sync::Wait;
@@ -56,7 +56,7 @@ impl<'a, 'b, R: Net<Stream = TcpStream> + Wait + Clock, J: System> Serve<R> for 
             return;
         };
         if let Ok(mut out) = stream.try_clone() {
-            let peers = Peers { groups: self.node };
+            let peers = Peers { groups: Handle::new(self.node) };
             serve_peer(rt, alloc, &peers, &mut passes, &mut stream, &mut out);
         }
         let Passes { tile, sum } = passes;
@@ -108,7 +108,7 @@ fn is_replied<R: Net<Stream = TcpStream> + Wait + Clock, J: System>(
         piece: 7,
         reads: 1_000_000,
     };
-    let peers = Peers { groups: node };
+    let peers = Peers { groups: Handle::new(node) };
     serve_peer(rt, alloc, &peers, passes, &mut reader, &mut out);
     is_same_text(out.as_slice(), replies)
 }

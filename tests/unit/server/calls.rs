@@ -90,14 +90,14 @@ fn stream_of<R: Threads + Wait + Clock + Sync, J: System + Send + Sync, V: Watch
 
 /// Mends the source of the image `a`.
 fn mend<R, J: System>(node: &Node<R, Faulty, J, NoLink, &Meeting>) -> Option<Result<Sent, Cut>> {
-    let entry = node.groups().tiles().images().catalogue().find("a")?;
+    let entry = node.groups().images().catalogue().find("a")?;
     entry.source.mend();
     counted(0, 0)
 }
 
 /// How many reads were made of the image `a`, as bytes.
 fn read<R, J: System>(node: &Node<R, Faulty, J, NoLink, &Meeting>) -> Option<Result<Sent, Cut>> {
-    let entry = node.groups().tiles().images().catalogue().find("a")?;
+    let entry = node.groups().images().catalogue().find("a")?;
     Some(Ok(Sent {
         status: 0,
         bytes: entry.source.reads(),
@@ -127,7 +127,7 @@ fn has_books<R: Wait, J: System>(
 ) -> bool {
     let groups = node.groups();
     is_same(
-        &(groups.sums().book(rt), groups.tiles().group().book(rt)),
+        &(groups.sums().book(rt), groups.tiles().book(rt)),
         &(sums, tiles),
     )
 }
