@@ -85,14 +85,8 @@ where
     } = alone;
     let workers = config.workers();
     let (tiles, sums) = blanks;
-    let Ok(node) = Node::<R, Stored<R>, J>::alone(
-        alloc,
-        config,
-        catalogue,
-        room,
-        tiles,
-        sums,
-    ) else {
+    let Ok(node) = Node::<R, Stored<R>, J>::alone(alloc, config, catalogue, room, tiles, sums)
+    else {
         return Err(Stop::Memory);
     };
     answer_one(rt, alloc, &node, workers, asked.target, out)

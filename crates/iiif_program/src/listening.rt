@@ -95,14 +95,8 @@ where
     } = made;
     let (alloc, workers) = (rt.alloc(), config.workers());
     let (tiles, sums) = blanks;
-    let Ok(node) = Node::<R, Stored<R>, J>::alone(
-        alloc,
-        config,
-        catalogue,
-        room,
-        tiles,
-        sums,
-    ) else {
+    let Ok(node) = Node::<R, Stored<R>, J>::alone(alloc, config, catalogue, room, tiles, sums)
+    else {
         return Err(Stop::Memory);
     };
     serve_by(rt, &node, workers, post, err)
@@ -178,7 +172,12 @@ where
     // Where the warnings can't be written, it serves all the same.
     let options = post.options;
     let _ = warn(err, options.base, &options.images);
-    let _ = warn_of_room(err, options.cache_bytes, options.cache_entries, options.edge);
+    let _ = warn_of_room(
+        err,
+        options.cache_bytes,
+        options.cache_entries,
+        options.edge,
+    );
     match serving::serve(rt, alloc, node, manner, &listeners, err) {
         Ok(()) => Ok(()),
         Err(_) => Err(Stop::Listen),

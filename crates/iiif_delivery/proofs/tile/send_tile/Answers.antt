@@ -28,8 +28,11 @@ returns-in-Ok-send_raster g c =
       whole = (image, is, c.in-Ok-send_raster.ensures.whole.0, c.in-Ok-send_raster.ensures.whole.1);
       held = held_itself d s.rows (channels_of j.shape.kind) (c.from.result * c.from-2.result * c.channels.result)
           (rw (high, wide, samples) refl);
-      buffered = buffered_itself s (record { bytes = c.in-Ok-send_raster.bytes; held = c.from.result * c.from-2.result * c.channels.result;
-          buffered = length s.start.now + length c.as_slice.result.now }) (length s.start.now) (length c.as_slice.result.now) refl refl
+      buffered = buffered_itself s (record {
+        bytes = c.in-Ok-send_raster.bytes;
+        held = c.from.result * c.from-2.result * c.channels.result;
+        buffered = length s.start.now + length c.as_slice.result.now;
+      }) (length s.start.now) (length c.as_slice.result.now) refl refl
           (ap length (head ∙ ap (head_of s.kind) sides));
       stopped = tt;
     }
