@@ -15,6 +15,7 @@ import multiprocessing
 import random
 import subprocess
 import sys
+from urllib.parse import quote
 
 from machine import LOCAL, WIDE, Node, Scene, World
 
@@ -24,11 +25,16 @@ LENGTH, LONG, BATCH = 45, 500, 100
 
 # Rows, as the program writes them
 
+def name_text(name):
+    """A name's word: percent-encoded, but for what is printed of ASCII and no percent sign."""
+    return quote(name, safe="".join(chr(n) for n in range(33, 127) if chr(n) != "%"))
+
+
 def key_text(key):
     if key[0] == "tile":
-        return "tile %s %d %d %d" % key[1:]
+        return "tile %s %d %d %d" % (name_text(key[1]), *key[2:])
     _, name, edge, rect, size, level, bx, by = key
-    return "sum %s %d %s %s %d %d %d" % (name, edge, "%d %d %d %d" % rect, "%d %d" % size, level, bx, by)
+    return "sum %s %d %s %s %d %d %d" % (name_text(name), edge, "%d %d %d %d" % rect, "%d %d" % size, level, bx, by)
 
 
 def kind_text(channels):
@@ -103,9 +109,9 @@ def rows(world):
         yield "node %d tiles%s" % (n, table_text(node.tiles))
         yield "node %d sums%s" % (n, table_text(node.sums))
     for n, given in enumerate(world.given):
-        yield "given %d: node %d %s fault %d %d" % ((n,) + given)
+        yield "given %d: node %d %s fault %d %d" % (n, given[0], name_text(given[1]), *given[2:])
     for n, (node, name, progress) in enumerate(world.requests):
-        yield "request %d: node %d %s %s" % (n, node, name, progress_text(progress))
+        yield "request %d: node %d %s %s" % (n, node, name_text(name), progress_text(progress))
     for n, (node, key, kind, purpose, state) in enumerate(world.calls):
         yield "call %d: node %d %s %s for %s %d: %s" % (n, node, kind, key_text(key), purpose[0], purpose[1], state_text(key, state))
     for n, (node, key, kind, ticket, stage) in enumerate(world.flights):
@@ -126,7 +132,7 @@ def a_picture(chance):
 
 def a_world(chance, is_long):
     """The world, and the lines that describe it."""
-    pictures = {name: a_picture(chance) for name in chance.choice((["p"], ["p", "picture-a"], ["p", "é"]))}
+    pictures = {name: a_picture(chance) for name in chance.choice((["p"], ["p", "picture-a"], ["p", "é"], ["p", "a b%"]))}
     edge = chance.randint(1, 3)
     side = chance.choice((8, 8, 8, 3))
     limits = (side, side, chance.random() < 0.5)
@@ -134,11 +140,11 @@ def a_world(chance, is_long):
     names = chance.choice((["a", "b"], ["a", "b"], ["a", "b", "c"], ["a", "b", "c"], ["a", "b", "b"]))
     known = sorted(set(names))
     nodes = [Node(name, chance.sample(known, chance.randint(1, len(known))), chance.choice((1, 2, 2)), chance.choice((25, 28, 60, 65, 120, 1000)),
-                  chance.randint(0, 4)) for name in names]
+                  chance.randint(1, 4)) for name in names]
     if is_long:
         nodes = [Node(name, [other], 2, chance.choice((60, 90, 140, 1000)), chance.randint(2, 8)) for name, other in (("a", "b"), ("b", "a"))]
     lines = ["edge %d" % edge, "limits %d %d%s" % (side, side, " upscale" if limits[2] else ""), "room %d" % room]
-    lines += ["picture %s %s" % (name, picture_text(p)) for name, p in pictures.items()]
+    lines += ["picture %s %s" % (name_text(name), picture_text(p)) for name, p in pictures.items()]
     lines += ["node %s %d %d %d %s" % (n.name, n.version, n.tiles.limit, n.tiles.room, " ".join(n.ring)) for n in nodes]
     return World(Scene(pictures, edge, limits, room), nodes), lines
 
@@ -329,7 +335,7 @@ def answer_word(answer):
 def event_text(event):
     kind, rest = event[0], event[1:]
     if kind == "want":
-        return "want %d %s %s" % (rest[0], rest[1], " ".join(rest[2]))
+        return "want %d %s %s" % (rest[0], name_text(rest[1]), " ".join(rest[2]))
     if kind == "land":
         return "land %d %s" % (rest[0], "kept" if rest[1] else "dropped")
     if kind == "evict":
@@ -378,9 +384,9 @@ def a_list(chance, number, each, is_long, tally):
         event = (an_event_onward if is_long else an_event)(chance, world)
         found = found_by(world, event)
         lines.append(event_text(event))
-        done = world.step(event)
+        done, told = world.told(event)
         tally.events[(event[0], found, left_by(world, event, found) if done else "not now")] += 1
-        wanted.append("%d %s: %s" % (number + len(lines) - 1, lines[-1], "done" if done else "not now"))
+        wanted.append("%d %s: %s" % (number + len(lines) - 1, lines[-1], told))
         if n % 10 == 9 if is_long else each:
             lines.append("rows")
             wanted += rows(world)
@@ -395,7 +401,7 @@ def a_list(chance, number, each, is_long, tally):
 
 def compare(program, lines, wanted):
     """The first line that differs, or None."""
-    run = subprocess.run([program], input="\n".join(lines) + "\n", capture_output=True, text=True)
+    run = subprocess.run([program, "--go-on"], input="\n".join(lines) + "\n", capture_output=True, text=True)
     wrote = run.stdout.splitlines()
     if run.returncode != 0:
         return "status %d: %s" % (run.returncode, run.stderr)

@@ -500,6 +500,26 @@ class World:
             return None
         return self.flights[flight]
 
+    def said(self, event, flights):
+        """What is said of an event that was done, where there were so many flights before: what a call met, and whether a landing kept."""
+        if event[0] == "enter":
+            node, key, _, _, state = self.calls[event[1]]
+            if state[0] == "hit":
+                return ": hit %d" % self.nodes[node].table(key).kept(key)[2]
+            return ": %s %d %d" % ("joins" if state[1] < flights else "leads", self.flights[state[1]][3], state[1])
+        if event[0] == "land":
+            node, key, _, ticket, _ = self.flights[event[1]]
+            entry = self.nodes[node].table(key).kept(key)
+            return ": kept" if entry and entry[2] == ticket else ": dropped"
+        return ""
+
+    def told(self, event):
+        """Does an event: whether it is allowed, and what is told of it."""
+        flights = len(self.flights)
+        if not self.step(event):
+            return False, "not now"
+        return True, "done" + self.said(event, flights)
+
     def want(self, node, name, request):
         if node >= len(self.nodes) or name not in self.scene.pictures:
             return False

@@ -7,13 +7,14 @@ The first file is the text of the lists, the second what `iiif_replay` wrote for
 """
 import re
 import sys
+from urllib.parse import unquote
 
 from lists import picture_text
 from machine import Scene, crop, in_quality, resolved, scale, turn
 from text import Text
 
 WANT = re.compile(r"(\d+) want \d+ (\S+) (\S+ \S+ \S+ \S+): done$")
-EVENT = re.compile(r"(\d+) .*: (?:done|not now)$")
+EVENT = re.compile(r"(\d+) .*: (?:done(?:: [a-z]+(?: \d+)*)?|not now)$")
 ANSWER = re.compile(r"request (\d+): (image .*|refused .*|fault .*|none)$")
 
 
@@ -51,7 +52,7 @@ def main():
         if event and scene_at[int(event[1])] is not scene:
             scene, wants = scene_at[int(event[1])], []
         if want:
-            wants.append((want[2], tuple(want[3].split())))
+            wants.append((unquote(want[2]), tuple(want[3].split())))
         elif answer:
             kind = answer[2].split()[0]
             counts[kind] = counts.get(kind, 0) + 1

@@ -1,10 +1,12 @@
 """What a text of lists comes to, by the evaluation of the definitions in Python: writes what `iiif_replay` has to write for it.
 
-    /usr/bin/python3 tests/machine/text.py < crates/iiif_replay/stdin
+    /usr/bin/python3 tests/machine/text.py --go-on < crates/iiif_replay/stdin
 
-The words of each line are those of docs/MACHINE.md, Replaying a list. A line that is no setting and no event ends it with status 2.
+The words of each line are those of docs/MACHINE.md, Replaying a list. A line that is no setting and no event ends it with status 2; and an
+event that isn't allowed with status 3, where it isn't told to go on.
 """
 import sys
+from urllib.parse import unquote
 
 from lists import answer_text, rows
 from machine import Node, Scene, World
@@ -12,14 +14,23 @@ from machine import Node, Scene, World
 NUMBERED = ("enter", "again", "ask_peer", "serve", "reply", "lose", "go_local", "load", "stop")
 
 
+def name_of(word):
+    """The name for which a word stands, percent-decoded."""
+    return unquote(word, errors="strict")
+
+
 def numbers(words):
     return [int(word) for word in words]
 
 
 def picture_of(words):
-    """gray|rgb 8|16 WIDTH HEIGHT SAMPLE.."""
+    """gray|rgb 8|16 WIDTH HEIGHT, and blank or SAMPLE.."""
     kind, bits, w, h, *samples = words
-    return (int(w), int(h), {"gray": 1, "rgb": 3}[kind], {"8": 255, "16": 65535}[bits], tuple(numbers(samples)))
+    channels, count = {"gray": 1, "rgb": 3}[kind], int(w) * int(h) * {"gray": 1, "rgb": 3}[kind]
+    all_of = [0] * count if samples == ["blank"] else numbers(samples)
+    if len(all_of) != count:
+        raise ValueError(count)
+    return (int(w), int(h), channels, {"8": 255, "16": 65535}[bits], tuple(all_of))
 
 
 def keys_of(words):
@@ -27,15 +38,20 @@ def keys_of(words):
     if not words:
         return []
     if words[0] == "tile":
-        return [("tile", words[1], *numbers(words[2:5]))] + keys_of(words[5:])
+        return [("tile", name_of(words[1]), *numbers(words[2:5]))] + keys_of(words[5:])
     edge, x, y, w, h, columns, lines, level, bx, by = numbers(words[2:12])
-    return [("sum", words[1], edge, (x, y, w, h), (columns, lines), level, bx, by)] + keys_of(words[12:])
+    return [("sum", name_of(words[1]), edge, (x, y, w, h), (columns, lines), level, bx, by)] + keys_of(words[12:])
+
+
+class NotNow(Exception):
+    """An event isn't allowed."""
 
 
 class Text:
     """The lists of a text, line by line."""
 
-    def __init__(self):
+    def __init__(self, goes_on=True):
+        self.goes_on = goes_on
         self.begin()
 
     def begin(self):
@@ -52,10 +68,12 @@ class Text:
         elif kind == "limits":
             self.limits = (*numbers(rest[:2]), rest[2:] == ["upscale"])
         elif kind == "picture":
-            self.pictures[rest[0]] = picture_of(rest[1:])
+            self.pictures.setdefault(name_of(rest[0]), picture_of(rest[1:]))
         elif kind == "node":
             version, limit, room = numbers(rest[1:4])
-            self.nodes.append(Node(rest[0], rest[4:], version, limit, room))
+            if room == 0:
+                raise ValueError(kind)
+            self.nodes.append(Node(name_of(rest[0]), [name_of(word) for word in rest[4:]], version, limit, room))
         else:
             return False
         return True
@@ -63,7 +81,7 @@ class Text:
     def event(self, words):
         kind, rest = words[0], words[1:]
         if kind == "want":
-            return (kind, int(rest[0]), rest[1], tuple(rest[2:]))
+            return (kind, int(rest[0]), name_of(rest[1]), tuple(rest[2:]))
         if kind == "land":
             return (kind, int(rest[0]), {"kept": True, "dropped": False}[rest[1]])
         if kind == "evict":
@@ -93,12 +111,14 @@ class Text:
         elif words == ["rows"]:
             yield from rows(self.begun())
         elif self.world is not None or not self.set(words):
-            done = self.begun().step(self.event(words))
-            yield "%d %s: %s" % (number, line.strip(), "done" if done else "not now")
+            done, told = self.begun().told(self.event(words))
+            yield "%d %s: %s" % (number, line.strip(), told)
+            if not done and not self.goes_on:
+                raise NotNow
 
 
 def main():
-    text = Text()
+    text = Text("--go-on" in sys.argv)
     for number, line in enumerate(sys.stdin, 1):
         try:
             for wrote in text.line(number, line):
@@ -106,6 +126,9 @@ def main():
         except (ValueError, KeyError, IndexError, TypeError):
             print("line %d" % number, file=sys.stderr)
             return 2
+        except NotNow:
+            print("line %d: not now" % number, file=sys.stderr)
+            return 3
     for wrote in text.ended():
         print(wrote)
     return 0

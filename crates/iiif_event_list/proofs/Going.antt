@@ -1,5 +1,5 @@
 -- How a list of events that is replayed goes on by a line.
-use Rattle.std.proofs.Common.{◌≡◌, inl, inr, ◌++◌, ℕ, List, [], ◌∷◌, Some, refl, sym, ap, subst, ◌∙◌}
+use Rattle.std.proofs.Common.{Bool, ◌≡◌, inl, inr, ◌++◌, ℕ, List, [], ◌∷◌, Some, refl, sym, ap, subst, ◌∙◌}
 use Rattle.std.proofs.lemmas.Option.{none-some, same_Some}
 use Rattle.iiif_machine.specs.Steps.{run}
 use Rattle.iiif_machine.specs.Worlds.{World}
@@ -7,12 +7,12 @@ use Rattle.iiif_machine.specs.declared.events.Event.{Event}
 use Rattle.iiif_world.specs.Code.{IsSoundWorld, world_of}
 use Rattle.iiif_world.proofs.Right.{run_is_right}
 use Rattle.iiif_world.proofs.Run.{runs_compose}
-use Rattle.iiif_event_list.specs.Described.{first_of, plain_world}
+use Rattle.iiif_event_list.specs.Described.{first_by, first_of, plain_world}
 use Rattle.iiif_event_list.specs.Spellings.{LineWords}
 use Rattle.iiif_event_list.specs.declared.state.State.{State}
 use Rattle.iiif_event_list.specs.declared.state.State.TheVariants.{Described, Begun, Lost}
-use Rattle.iiif_event_list.specs.Replays.{Comes, HasBegun, HasHeadline, IsDescribed, IsNew, IsOutcome, LineComes, done_in, first_in}
-use Rattle.iiif_event_list.specs.Replays.{world_in}
+use Rattle.iiif_event_list.specs.Replays.{Comes, HasBegun, HasHeadline, IsDescribed, IsNew, IsOutcome, LineComes, Sets, done_in}
+use Rattle.iiif_event_list.specs.Replays.{first_in, world_in}
 use Rattle.iiif_event_list.specs.Replays.{blank, comment, next, shown, set, happened}
 
 -- The events that were done made of the first world, which is sound, the one that has begun; until one begins none was done.
@@ -27,7 +27,7 @@ right_in (Begun w) first done h = (h.0, run_is_right first (world_of w) done h.1
 right_in Lost first done h = tt
 
 pub new_goes_on : (s : State) → IsNew s → IsGoingOn plain_world [] s
-new_goes_on (Described d) is = (sym is, refl)
+new_goes_on (Described d) is = (sym (ap first_by is), refl)
 new_goes_on (Begun w) is = absurd is
 new_goes_on Lost is = absurd is
 
@@ -87,24 +87,36 @@ shown_on s Lost first done new going stands begun idle = absurd begun
 shown_on s (Begun w) first done new going stands begun idle =
     ran_on s (Begun w) first done new (world_of w) (world_of w) going (sym stands) begun (ran_none (world_of w) new idle) refl
 
-ran_by : (number : ℕ) (line : List ℕ) (old new : World) (e : Event) (done : List Event) (text : List ℕ) →
-    IsOutcome number line old e done new text → run old done ≡ Some new
-ran_by number line old new e done text (inl is) = is.1
-ran_by number line old new e done text (inr is) = ran_none old done is.0 ∙ ap (λ (w : World). Some w) (sym is.2)
+ran_by : (number : ℕ) (line : List ℕ) (old new : World) (e : Event) (allowed : Bool) (done : List Event) (text : List ℕ) →
+    IsOutcome number line old e allowed done new text → run old done ≡ Some new
+ran_by number line old new e allowed done text (inl is) = is.2
+ran_by number line old new e allowed done text (inr is) = ran_none old done is.1 ∙ ap (λ (w : World). Some w) (sym is.3)
 
-goes_on_by : (number : ℕ) (line : List ℕ) (ws : LineWords) (s t : State) (first : World) (done new : List Event) (text : List ℕ) →
-    IsGoingOn first done s → Comes number line ws s new t text → GoesOn first done new t
-goes_on_by number line ws s t first done new text going (blank none same idle nothing) = stays s t first done new going same idle
-goes_on_by number line ws s t first done new text going (comment is same idle nothing) = stays s t first done new going same idle
-goes_on_by number line ws s t first done new text going (next is fresh idle ended) =
+sets_described : (ws : LineWords) (s t : State) → Sets ws s t → IsDescribed t
+sets_described ws (Described d) (Described e) is = tt
+sets_described ws (Described d) (Begun w) is = absurd is
+sets_described ws (Described d) Lost is = absurd is
+sets_described ws (Begun x) t is = absurd is
+sets_described ws Lost t is = absurd is
+
+goes_on_by : (number : ℕ) (line : List ℕ) (ws : LineWords) (s t : State) (first : World) (done : List Event) (allowed : Bool)
+    (new : List Event) (text : List ℕ) → IsGoingOn first done s → Comes number line ws s allowed new t text → GoesOn first done new t
+goes_on_by number line ws s t first done allowed new text going (blank none same fine idle nothing) =
+    stays s t first done new going same idle
+goes_on_by number line ws s t first done allowed new text going (comment is same fine idle nothing) =
+    stays s t first done new going same idle
+goes_on_by number line ws s t first done allowed new text going (next is fresh fine idle ended) =
     begins_anew t first done new (new_is_described t fresh)
-goes_on_by number line ws s t first done new text going (shown is idle) =
+goes_on_by number line ws s t first done allowed new text going (shown is fine idle) =
     shown_on s t first done new going is.stands is.begun idle
-goes_on_by number line ws s t first done new text going (set is idle) = begins_anew t first done new is.described.1
-goes_on_by number line ws s t first done new text going (happened is) =
+goes_on_by number line ws s t first done allowed new text going (set is fine idle) =
+    begins_anew t first done new (sets_described ws s t is.sets)
+goes_on_by number line ws s t first done allowed new text going (happened is) =
     ran_on s t first done new is.old is.new going is.begun is.sound
-    (ran_by number line is.old is.new is.event new text is.outcome) is.stands
+    (ran_by number line is.old is.new is.event allowed new text is.outcome) is.stands
 
-pub line_goes_on : (number : ℕ) (line : List ℕ) (s t : State) (first : World) (done new : List Event) (text : List ℕ) →
-    IsGoingOn first done s → LineComes number line s new t text → IsGoingOn (first_in t first) (done_in t (done ++ new)) t
-line_goes_on number line s t first done new text going comes = goes_on_by number line comes.0 s t first done new text going comes.2
+pub line_goes_on : (number : ℕ) (line : List ℕ) (s t : State) (first : World) (done : List Event) (allowed : Bool) (new : List Event)
+    (text : List ℕ) → IsGoingOn first done s → LineComes number line s allowed new t text →
+    IsGoingOn (first_in t first) (done_in t (done ++ new)) t
+line_goes_on number line s t first done allowed new text going comes =
+    goes_on_by number line comes.0 s t first done allowed new text going comes.2

@@ -1,4 +1,6 @@
 pub mod Lines
+pub mod Listed
+pub mod Said
 pub mod Outcome
 pub mod Going
 pub mod SoFar

@@ -1,6 +1,6 @@
 -- How the replay of a reader goes on line by line.
-use Rattle.std.proofs.Common.{◌≡◌, inl, inr, ◌++◌, ◌<◌, append_assoc, ℕ, List, [], ◌∷◌, length, Option, Some, None, refl, sym, ap}
-use Rattle.std.proofs.Common.{subst, ◌∙◌}
+use Rattle.std.proofs.Common.{Bool, false, ◌≡◌, inl, inr, ◌++◌, ◌<◌, append_assoc, ℕ, List, [], ◌∷◌, length, Option, Some, None, refl}
+use Rattle.std.proofs.Common.{sym, ap, subst}
 use Rattle.std.specs.Prelude.{IfSome, OnOk, Result, Ok, Err}
 use Rattle.std.specs.Io.BufRead.{DropsThrough, first_line}
 use Rattle.std.specs.Io.KnownBytes.{Appends, IsAtEnd}
@@ -9,21 +9,26 @@ use Rattle.iiif_machine.specs.Worlds.{World}
 use Rattle.iiif_machine.specs.declared.events.Event.{Event}
 use Rattle.iiif_event_list.specs.Described.{plain_world}
 use Rattle.iiif_event_list.specs.declared.state.State.{State}
-use Rattle.iiif_event_list.specs.Replays.{AreFirstLinesIn, IsBad, LinesStop, Stops}
-use Rattle.iiif_event_list.specs.Replays.{AreLinesIn, IsNew, LineComes, LinesCome, Replays, done_in, ended_text, first_in, number_behind}
+use Rattle.iiif_event_list.specs.declared.Mode.{Mode}
+use Rattle.iiif_event_list.specs.declared.Mode.TheVariants.{Judging}
+use Rattle.iiif_event_list.specs.declared.Stop.{Stop}
+use Rattle.iiif_event_list.specs.declared.Stop.TheVariants.{Line, NotNow}
+use Rattle.iiif_event_list.specs.Replays.{AreFirstLinesIn, AreLinesIn, GoesOn, IsBad, IsNew, LineComes, LinesCome, LinesStop, Replays}
+use Rattle.iiif_event_list.specs.Replays.{Stops, StopsAt, done_in, ended_text, first_in, number_behind}
 use Rattle.iiif_event_list.proofs.Going.{IsGoingOn, line_goes_on, new_goes_on, right_in}
 
 -- What was written so far, and which events of the list that is replayed were done in which first world; and whatever lines may come
--- yet, what they come to ends the replay.
-pub record WrittenSoFar (input left : Option (List ℕ)) (n : ℕ) (s : State) (old new : Option (List ℕ)) : Type 0 where
+-- yet, what they come to ends the replay, and at whichever it stops, it stops.
+pub record WrittenSoFar (mode : Mode) (input left : Option (List ℕ)) (n : ℕ) (s : State) (old new : Option (List ℕ)) : Type 0 where
   pub text : List ℕ
   pub written : Appends old new text
   pub first : World
   pub done : List Event
   pub going : IsGoingOn first done s
-  pub more : (lines : List (List ℕ)) (rest : List ℕ) → AreLinesIn left lines → LinesCome n lines first done s rest →
-      Replays input (text ++ rest)
-  pub stops : (lines : List (List ℕ)) (m : ℕ) → AreFirstLinesIn left lines → LinesStop n lines s m → Stops input m
+  pub more : (lines : List (List ℕ)) (rest : List ℕ) → AreLinesIn left lines → LinesCome mode n lines first done s rest →
+      Replays mode input (text ++ rest)
+  pub stops : (lines : List (List ℕ)) (stop : Stop) (rest : List ℕ) → AreFirstLinesIn left lines →
+      LinesStop mode n lines first done s stop rest → Stops mode input stop (text ++ rest)
 
 nothing_appended : (a : Option (List ℕ)) → Appends a a []
 nothing_appended None = tt
@@ -33,9 +38,9 @@ nothing_appended (Some xs) = sym (append_nothing xs)
     append_nothing [] = refl
     append_nothing (y ∷ ys) = ap (λ zs. y ∷ zs) (append_nothing ys)
 
-pub begun : (input left : Option (List ℕ)) (s : State) (old : Option (List ℕ)) → left ≡ input → IsNew s →
-    WrittenSoFar input left 0 s old old
-begun input left s old same new = record {
+pub begun : (mode : Mode) (input left : Option (List ℕ)) (s : State) (old : Option (List ℕ)) → left ≡ input → IsNew s →
+    WrittenSoFar mode input left 0 s old old
+begun mode input left s old same new = record {
   text = [];
   written = nothing_appended old;
   first = plain_world;
@@ -49,12 +54,13 @@ begun input left s old same new = record {
     come =
         come;
   };
-  stops = λ lines m read stop. record {
+  stops = λ lines stop rest read stops. record {
     lines = lines;
     read = subst (λ o. AreFirstLinesIn o lines) same read;
     start = s;
     new = new;
-    stop = stop;
+    stops =
+        stops;
   };
 }
 
@@ -74,54 +80,93 @@ none_read : (o : Option (List ℕ)) → AreFirstLinesIn o []
 none_read None = tt
 none_read (Some xs) = tt
 
--- a bad line stops the replay
-pub stopped : (input left next : Option (List ℕ)) (n m k : ℕ) (s : State) (old mid : Option (List ℕ)) (line bytes : List ℕ)
-    → WrittenSoFar input left n s old mid → IfSome left (λ xs. (0 < length xs) × (bytes ≡ first_line xs)) × DropsThrough left next 10
-    → line ≡ bytes → m ≡ number_behind n → (k ≡ m) × IsBad line s → Stops input k
-stopped input left next n m k s old mid line bytes so_far is same behind bad =
-    so_far.stops (bytes ∷ []) k (first_line_read left next bytes [] is.0 is.1 (none_read next))
-    (inl (refl, bad.0 ∙ behind, subst (λ l. IsBad l s) same bad.1))
-
-pub went_on : (input left next : Option (List ℕ)) (n m : ℕ) (s t : State) (old mid new : Option (List ℕ)) (line bytes front : List ℕ)
-    (events : List Event) → WrittenSoFar input left n s old mid →
+-- a line that stops the replay, of which this was written
+pub stopped : (mode : Mode) (input left next : Option (List ℕ)) (n m : ℕ) (s : State) (old mid new : Option (List ℕ)) (line bytes : List ℕ)
+    (stop : Stop) (front : List ℕ) → WrittenSoFar mode input left n s old mid →
     IfSome left (λ xs. (0 < length xs) × (bytes ≡ first_line xs)) × DropsThrough left next 10 →
-    line ≡ bytes → m ≡ number_behind n → LineComes m line s events t front → Appends mid new front → WrittenSoFar input next m t old new
-went_on input left next n m s t old mid new line bytes front events so_far is same behind comes written =
-    let comes_so : LineComes m bytes s events t front = subst (λ l. LineComes m l s events t front) same comes in
-    let comes_behind : LineComes (number_behind n) bytes s events t front =
-    subst (λ k. LineComes k bytes s events t front) behind comes_so in
+    line ≡ bytes → m ≡ number_behind n → StopsAt mode m line s stop front → Appends mid new front →
+    (text : List ℕ) × Stops mode input stop text × Appends old new text
+stopped mode input left next n m s old mid new line bytes stop front so_far is same behind stops written = (
+  so_far.text ++ front,
+  so_far.stops (bytes ∷ []) stop front (first_line_read left next bytes [] is.0 is.1 (none_read next))
+      (inl (refl, subst (λ k. StopsAt mode k bytes s stop front) behind (subst (λ l. StopsAt mode m l s stop front) same stops))),
+  Appends-trans old mid new so_far.text front so_far.written written,
+)
+
+-- a bad line, of which nothing was written
+pub stopped_bad : (mode : Mode) (input left next : Option (List ℕ)) (n m k : ℕ) (s : State) (old mid new : Option (List ℕ))
+    (line bytes : List ℕ) → WrittenSoFar mode input left n s old mid →
+    IfSome left (λ xs. (0 < length xs) × (bytes ≡ first_line xs)) × DropsThrough left next 10 → line ≡ bytes → m ≡ number_behind n →
+    (k ≡ m) × IsBad line s × (new ≡ mid) → (text : List ℕ) × Stops mode input (Line k) text × Appends old new text
+stopped_bad mode input left next n m k s old mid new line bytes so_far is same behind bad =
+    stopped mode input left next n m s old mid new line bytes (Line k) [] so_far is same behind (bad.0, bad.1, refl)
+    (subst (λ o. Appends mid o []) (sym bad.2) (nothing_appended mid))
+
+-- an event that isn't allowed, where the replay judges
+pub stopped_at : (mode : Mode) (input left next : Option (List ℕ)) (n m k : ℕ) (s t : State) (old mid new : Option (List ℕ))
+    (line bytes : List ℕ) → WrittenSoFar mode input left n s old mid →
+    IfSome left (λ xs. (0 < length xs) × (bytes ≡ first_line xs)) × DropsThrough left next 10 → line ≡ bytes → m ≡ number_behind n →
+    (k ≡ m) × (mode ≡ Judging) × (front : List ℕ) × (done : List Event) × LineComes m line s false done t front × Appends mid new front →
+    (text : List ℕ) × Stops mode input (NotNow k) text × Appends old new text
+stopped_at mode input left next n m k s t old mid new line bytes so_far is same behind told =
+    stopped mode input left next n m s old mid new line bytes (NotNow k) told.2 so_far is same behind
+    (told.0, told.1, t, told.3, told.4) told.5
+
+pub went_on : (mode : Mode) (input left next : Option (List ℕ)) (n m : ℕ) (s t : State) (old mid new : Option (List ℕ))
+    (line bytes front : List ℕ) (allowed : Bool) (events : List Event) → WrittenSoFar mode input left n s old mid →
+    IfSome left (λ xs. (0 < length xs) × (bytes ≡ first_line xs)) × DropsThrough left next 10 →
+    line ≡ bytes → m ≡ number_behind n → LineComes m line s allowed events t front → GoesOn mode allowed → Appends mid new front →
+    WrittenSoFar mode input next m t old new
+went_on mode input left next n m s t old mid new line bytes front allowed events so_far is same behind comes on written =
+    let comes_so : LineComes m bytes s allowed events t front = subst (λ l. LineComes m l s allowed events t front) same comes in
+    let comes_behind : LineComes (number_behind n) bytes s allowed events t front =
+    subst (λ k. LineComes k bytes s allowed events t front) behind comes_so in
     let first : World = first_in t so_far.first in
     let done : List Event = done_in t (so_far.done ++ events) in
-    let going : IsGoingOn first done t = line_goes_on m bytes s t so_far.first so_far.done events front so_far.going comes_so in
+    let going : IsGoingOn first done t =
+    line_goes_on m bytes s t so_far.first so_far.done allowed events front so_far.going comes_so in
     record {
       text = so_far.text ++ front;
       written = Appends-trans old mid new so_far.text front so_far.written written;
       first = first;
       done = done;
       going = going;
-      more = λ lines rest read come. subst (Replays input) (sym (append_assoc so_far.text front rest))
+      more = λ lines rest read come. subst (Replays mode input) (sym (append_assoc so_far.text front rest))
           (so_far.more (bytes ∷ lines) (front ++ rest) (line_read left next bytes lines is.0 is.1 read) (
             t,
+            allowed,
             events,
             front,
             rest,
             comes_behind,
+            on,
             right_in t first done going,
-            subst (λ k. LinesCome k lines first done t rest) behind come,
+            subst (λ k. LinesCome mode k lines first done t rest) behind come,
             refl,
           ));
-      stops = λ lines k read stop. so_far.stops (bytes ∷ lines) k (first_line_read left next bytes lines is.0 is.1 read)
-          (inr (t, events, front, comes_behind, subst (λ j. LinesStop j lines t k) behind stop));
+      stops = λ lines stop rest read stops. subst (Stops mode input stop) (sym (append_assoc so_far.text front rest))
+          (so_far.stops (bytes ∷ lines) stop (front ++ rest) (first_line_read left next bytes lines is.0 is.1 read) (inr (
+            t,
+            allowed,
+            events,
+            front,
+            rest,
+            comes_behind,
+            on,
+            right_in t first done going,
+            subst (λ k. LinesStop mode k lines first done t stop rest) behind stops,
+            refl,
+          )));
     }
 
 nothing_left : (left : Option (List ℕ)) → IsAtEnd left → AreLinesIn left []
 nothing_left None at_end = tt
 nothing_left (Some xs) at_end = at_end
 
-pub finished : (input left : Option (List ℕ)) (n : ℕ) (s : State) (old mid new : Option (List ℕ))
-    → WrittenSoFar input left n s old mid → IsAtEnd left → Appends mid new (ended_text s) → (text : List ℕ) × Replays input text ×
-    Appends old new text
-finished input left n s old mid new so_far at_end written = (
+pub finished : (mode : Mode) (input left : Option (List ℕ)) (n : ℕ) (s : State) (old mid new : Option (List ℕ))
+    → WrittenSoFar mode input left n s old mid → IsAtEnd left → Appends mid new (ended_text s) → (text : List ℕ) ×
+    Replays mode input text × Appends old new text
+finished mode input left n s old mid new so_far at_end written = (
   so_far.text ++ ended_text s,
   so_far.more [] (ended_text s) (nothing_left left at_end) refl,
   Appends-trans old mid new so_far.text (ended_text s) so_far.written written,

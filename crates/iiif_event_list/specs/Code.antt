@@ -8,7 +8,7 @@ use Rattle.iiif_scene.specs.declared.keys.Key.{Key}
 use Rattle.iiif_machine.specs.Types.{Request}
 use Rattle.iiif_event_list.specs.declared.fault.LineFault.{LineFault}
 use Rattle.iiif_event_list.specs.declared.fault.LineFault.TheVariants.{Bad, NoMemory}
-use Rattle.iiif_event_list.specs.Spellings.{LineWords, WordAt, NumberAt, IsRequestAt, IsKey, AreKeys, FitsKey}
+use Rattle.iiif_event_list.specs.Spellings.{LineWords, WordAt, NameAt, NumberAt, IsRequestAt, IsKey, AreKeys, FitsKey}
 
 -- a fault is `Bad` only where this isn't so
 abbrev pub IsBadUnless : Type 0 → LineFault → Type 0
@@ -32,7 +32,7 @@ abbrev pub HasNumber : LineWords → ℕ → ℕ → Type 0
 HasNumber ws i bits = (n : ℕ) × NumberAt ws i n × (n < 2 ^ bits)
 
 abbrev pub HasName : LineWords → ℕ → Type 0
-HasName ws i = (w : List ℕ) × WordAt ws i w × (is_name w ≡ true)
+HasName ws i = (name : List ℕ) × NameAt ws i name × (is_name name ≡ true)
 
 abbrev pub HasRequest : LineWords → ℕ → Type 0
 HasRequest ws i = (q : Request) × IsRequestAt ws i q

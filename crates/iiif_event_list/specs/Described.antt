@@ -7,10 +7,15 @@ use Rattle.iiif_machine.specs.Worlds.{World, new_world}
 use Rattle.iiif_world.specs.Code.{scene_of}
 use Rattle.iiif_world.specs.Starting.{AreSources, HasNodeName, IsRoom, NamesNodes, node_for}
 use Rattle.iiif_event_list.specs.declared.describing.Description.{Description}
+use Rattle.iiif_event_list.specs.Settings.{Settings, settings_of}
+
+-- the world of which lines say this, in which nothing has happened
+abbrev pub first_by : Settings → World
+first_by s = new_world (scene_of s.items s.edge s.limits s.room) (map node_for s.setups)
 
 -- the world that was described, in which nothing has happened
 abbrev pub first_of : Description → World
-first_of d = new_world (scene_of d.items.items d.edge d.limits d.room) (map node_for d.setups.items)
+first_of d = first_by (settings_of d)
 
 -- A world can begin so: the edge and the room are such, each picture is one of a source, each name on a ring is a node's, and no node's
 -- name is too long.
@@ -25,6 +30,9 @@ pub record CanBegin (d : Description) : Type 0 where
 abbrev pub plain_limits : Limits
 plain_limits = record { max_w = 4096; max_h = 4096; upscale = false }
 
--- the world of which no line says anything: tiles of 256 places a side, and a room of 65,536 sums for a plan
+-- where no line says anything: tiles of 256 places a side, and a room of 65,536 sums for a plan
+abbrev pub plain_settings : Settings
+plain_settings = record { edge = 256; limits = plain_limits; room = 65536; items = []; setups = [] }
+
 abbrev pub plain_world : World
-plain_world = new_world (scene_of [] 256 plain_limits 65536) []
+plain_world = first_by plain_settings

@@ -3,7 +3,9 @@ use denote.Ref.{Bor}
 use Rattle.std.specs.Prelude.{◌≡◌, ◌+◌, ◌<◌, ◌^◌, ℕ, List, [], ◌∷◌, ◌++◌, true, codes, Some, drop, length, slice_get}
 use Rattle.std.specs.Prelude.{if◌then◌else◌}
 use Rattle.std.specs.List.{AllByRecursion}
+use Rattle.std.specs.Prelude.{IsUtf8}
 use Rattle.std.specs.Str.Parse.{IsNumeral, digits_value, without_leading_plus}
+use Rattle.percent_encoding.specs.Percent.{percent_decode}
 use Rattle.iiif_pixel.specs.declared.geometry.Dim.{Dim}
 use Rattle.iiif_pixel.specs.declared.geometry.Rect.{Rect}
 use Rattle.iiif_request.specs.Spells.{SpellsRequest}
@@ -25,9 +27,21 @@ LineWords = List (Bor (List ℕ))
 abbrev pub WordAt : LineWords → ℕ → List ℕ → Type 0
 WordAt ws i w = (x : Bor (List ℕ)) × (slice_get ws i ≡ Some x) × (x.now ≡ w)
 
--- the word at a place is a number in decimal digits, perhaps behind a plus
+-- a word is a number in decimal digits, perhaps behind a plus
+abbrev pub IsNumber : List ℕ → ℕ → Type 0
+IsNumber w n = IsNumeral 10 (without_leading_plus w) × (n ≡ digits_value 10 (without_leading_plus w))
+
+-- the word at a place is a number
 abbrev pub NumberAt : LineWords → ℕ → ℕ → Type 0
 NumberAt ws i n = (w : List ℕ) × WordAt ws i w × IsNumeral 10 (without_leading_plus w) × (n ≡ digits_value 10 (without_leading_plus w))
+
+-- a word is a name, percent-encoded, so that a name may have white space
+abbrev pub Names : List ℕ → List ℕ → Type 0
+Names w name = IsUtf8 (percent_decode w) × (percent_decode w ≡ name)
+
+-- the word at a place is a name
+abbrev pub NameAt : LineWords → ℕ → List ℕ → Type 0
+NameAt ws i name = (w : List ℕ) × WordAt ws i w × IsUtf8 (percent_decode w) × (percent_decode w ≡ name)
 
 -- the words are a name and a number
 pub record IsNumbered (name : List ℕ) (ws : LineWords) (n : ℕ) : Type 0 where
@@ -50,7 +64,7 @@ pub record IsRequestAt (ws : LineWords) (i : ℕ) (q : Request) : Type 0 where
 -- the first words are `tile`, a name, an edge, a column and a row, and these are the key's
 pub record IsTile (ws : LineWords) (k : TileKey) : Type 0 where
   pub word : WordAt ws 0 (codes "tile")
-  pub name : WordAt ws 1 k.name
+  pub name : NameAt ws 1 k.name
   pub edge : NumberAt ws 2 k.edge
   pub column : NumberAt ws 3 k.tx
   pub row : NumberAt ws 4 k.ty
@@ -70,7 +84,7 @@ pub record IsDimAt (ws : LineWords) (i : ℕ) (d : Dim) : Type 0 where
 -- the first words are `sum`, a name, an edge, a rectangle, the sides of its result, a level, a column and a row, and these are the key's
 pub record IsSum (ws : LineWords) (k : SumKey) : Type 0 where
   pub word : WordAt ws 0 (codes "sum")
-  pub name : WordAt ws 1 k.name
+  pub name : NameAt ws 1 k.name
   pub edge : NumberAt ws 2 k.edge
   pub rect : IsRectAt ws 3 k.rect
   pub size : IsDimAt ws 7 k.size
@@ -102,7 +116,7 @@ pub record AddsKey (ws : LineWords) (before after : List Key) (count : ℕ) : Ty
 
 -- the words are the event
 abbrev pub IsEventOf : LineWords → Event → Type 0
-IsEventOf ws (Want i name q) = (length ws ≡ 7) × WordAt ws 0 (codes "want") × NumberAt ws 1 i × WordAt ws 2 name × IsRequestAt ws 3 q
+IsEventOf ws (Want i name q) = (length ws ≡ 7) × WordAt ws 0 (codes "want") × NumberAt ws 1 i × NameAt ws 2 name × IsRequestAt ws 3 q
 IsEventOf ws (Enter c) = IsNumbered (codes "enter") ws c
 IsEventOf ws (Again f) = IsNumbered (codes "again") ws f
 IsEventOf ws (AskPeer f) = IsNumbered (codes "ask_peer") ws f

@@ -1,8 +1,21 @@
 -- What is written of events and of answers.
-use Rattle.std.specs.Prelude.{ℕ, suc, List, [], ◌∷◌, ◌++◌, ◌==◌, codes, decimal, Option, Some, None, if◌then◌else◌}
+use Rattle.std.specs.Prelude.{ℕ, suc, List, [], ◌∷◌, ◌++◌, ◌==◌, nat_lt, codes, decimal, Option, Some, None, if◌then◌else◌}
+use Rattle.std.specs.Prelude.{option_map, slice_get}
 use Rattle.std.specs.List.{flat_map}
 use Rattle.std.specs.Str.{trim}
-use Rattle.iiif_machine.specs.Types.{Picture, Refusal, ReadFault}
+use Rattle.iiif_tables.specs.Cache.{Kept, kept_for}
+use Rattle.iiif_scene.specs.Keys.{key_eq}
+use Rattle.iiif_machine.specs.Types.{Key, Value, Picture, Refusal, ReadFault}
+use Rattle.iiif_machine.specs.Rows.{Node}
+use Rattle.iiif_machine.specs.declared.rows.Caller.{Caller}
+use Rattle.iiif_machine.specs.declared.rows.Call.{Call}
+use Rattle.iiif_machine.specs.declared.rows.CallState.{CallState}
+use Rattle.iiif_machine.specs.declared.rows.CallState.TheVariants.{Fresh, Hit, In, Gone}
+use Rattle.iiif_machine.specs.declared.rows.Flight.{Flight}
+use Rattle.iiif_machine.specs.Worlds.{World, table_at}
+use Rattle.iiif_machine.specs.declared.events.Event.{Event}
+use Rattle.iiif_machine.specs.declared.events.Event.TheVariants.{Want, Enter, Again, AskPeer, Serve, Reply, Take, Lose, GoLocal, Load}
+use Rattle.iiif_machine.specs.declared.events.Event.TheVariants.{SourceFault, Land, Evict, Stop}
 use Rattle.iiif_machine.specs.declared.rows.Answer.{Answer}
 use Rattle.iiif_machine.specs.declared.rows.Answer.TheVariants.{Refused, Image, Failed}
 use Rattle.iiif_request.specs.declared.request.Refusal.TheVariants as refusal
@@ -42,6 +55,17 @@ refusal_word refusal.Larger = codes "Larger"
 refusal_word refusal.Upscale = codes "Upscale"
 refusal_word refusal.Limit = codes "Limit"
 
+-- the ticket of what a node keeps for a key
+abbrev pub ticket_at : Node → Key → Option ℕ
+ticket_at n k = option_map (λ (e : Kept Value). e.ticket) (kept_for key_eq k (table_at n k).cache)
+
+abbrev pub ticket_in : Option Node → Key → Option ℕ
+ticket_in None k = None
+ticket_in (Some n) k = ticket_at n k
+
+abbrev pub ticket_kept : World → ℕ → Key → Option ℕ
+ticket_kept v i k = ticket_in (slice_get v.nodes i) k
+
 -- an answer: a refusal and its word, an image and its picture, or a fault
 abbrev pub answer_text : Answer → List ℕ
 answer_text (Refused r) = codes "refused " ++ refusal_word r
@@ -65,6 +89,51 @@ lines_from n (a ∷ more) = answer_line n a ++ lines_from (suc n) more
 -- what is written of the answers of a list
 abbrev pub answers_text : List (Option Answer) → List ℕ
 answers_text all = lines_from 0 all
+
+-- what a call that entered met, where the list has as many flights from before: what is kept, by the ticket of the flight that landed with
+-- it; or a flight, by its ticket and its number, which was open, or which the call leads
+abbrev pub ticket_text : Option ℕ → List ℕ
+ticket_text None = []
+ticket_text (Some n) = spaced n
+
+abbrev pub flight_text : World → ℕ → List ℕ
+flight_text v f = ticket_text (option_map (λ (fl : Flight). fl.lead.ticket) (slice_get v.flights f)) ++ spaced f
+
+abbrev pub met_text : ℕ → World → Caller → CallState → List ℕ
+met_text flights v who Fresh = []
+met_text flights v who (Hit x) = codes ": hit" ++ ticket_text (ticket_kept v who.node who.key)
+met_text flights v who (In f) = (if nat_lt f flights then codes ": joins" else codes ": leads") ++ flight_text v f
+met_text flights v who Gone = []
+
+abbrev pub entered_text : ℕ → World → Option Call → List ℕ
+entered_text flights v None = []
+entered_text flights v (Some call) = met_text flights v call.caller call.state
+
+-- whether the node of a flight that has landed keeps what it landed with: by its ticket
+abbrev pub kept_text : ℕ → Option ℕ → List ℕ
+kept_text ticket None = codes ": dropped"
+kept_text ticket (Some n) = if n == ticket then codes ": kept" else codes ": dropped"
+
+abbrev pub landed_text : World → Option Flight → List ℕ
+landed_text v None = []
+landed_text v (Some fl) = kept_text fl.lead.ticket (ticket_kept v fl.lead.node fl.lead.key)
+
+-- what is said, behind `done`, of an event that made this world of one with so many flights
+abbrev pub said_text : ℕ → Event → World → List ℕ
+said_text flights (Want i name q) v = []
+said_text flights (Enter c) v = entered_text flights v (slice_get v.calls c)
+said_text flights (Again f) v = []
+said_text flights (AskPeer f) v = []
+said_text flights (Serve a) v = []
+said_text flights (Reply c) v = []
+said_text flights (Take f r) v = []
+said_text flights (Lose f) v = []
+said_text flights (GoLocal f) v = []
+said_text flights (Load f) v = []
+said_text flights (SourceFault f e) v = []
+said_text flights (Land f kept) v = landed_text v (slice_get v.flights f)
+said_text flights (Evict i keys) v = []
+said_text flights (Stop i) v = []
 
 -- what is written of an event: its line's number, its words, and what it came to
 abbrev pub outcome_text : ℕ → List ℕ → List ℕ → List ℕ

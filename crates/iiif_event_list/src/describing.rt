@@ -1,16 +1,21 @@
 //! Worlds, as the lines before their first event describe them.
 
-ghost use Rattle.std.specs.Prelude.{◌≡◌, ◌⊎◌, true, false, length, IfOk, IsErrOf};
-ghost use Rattle.iiif_pixel.specs.Depths.{values_of};
+ghost use Rattle.std.specs.Prelude.{◌≡◌, ◌⊎◌, ◌<◌, ◌++◌, ◌∷◌, [], true, false, codes, length, string_bytes, IfOk, IsErrOf, OnOk};
+ghost use Rattle.iiif_pixel.specs.Geometry.{channels_of};
+ghost use Rattle.iiif_pixel.specs.Depths.{depth_of, values_of};
+ghost use Rattle.iiif_ring.specs.Names.{names_of};
 ghost use Rattle.iiif_world.specs.Code.{world_of, IsSoundWorld};
 ghost use Rattle.iiif_event_list.specs.declared.fault.LineFault.{LineFault};
-ghost use Rattle.iiif_event_list.specs.Described.{CanBegin, first_of, plain_world};
-ghost use Rattle.iiif_event_list.specs.Spellings.{IsSetting};
+ghost use Rattle.iiif_event_list.specs.Described.{CanBegin, first_of, plain_settings};
+ghost use Rattle.iiif_event_list.specs.Settings.{AreNames, AreNumbers, IsLimits, IsNode, IsPicture, IsSettingOf, HasSamples, depth_word};
+ghost use Rattle.iiif_event_list.specs.Settings.{settings_of};
+ghost use Rattle.iiif_event_list.specs.Spellings.{IsNumber, IsSetting, NumberAt, WordAt};
+ghost use Rattle.iiif_event_list.specs.Texts.{kind_word};
 
 use crate::fault::LineFault;
-use crate::reading::{count, name, number, side, word};
+use crate::reading::{count, decode, dim, name, number, side, word};
 use iiif_canonical::Limits;
-use iiif_pixel::{Dim, Kind, NoMemory, Raster, Samples};
+use iiif_pixel::{Depth, Dim, Kind, NoMemory, Raster, Samples};
 use iiif_ring::{Ring, RingFault};
 use iiif_world::{Item, Setup, SetupFault, World};
 use std::alloc::Global;
@@ -26,7 +31,9 @@ pub struct Description {
 }
 
 /// Gray or RGB.
-fn kind(word: &str) -> Result<Kind, LineFault> {
+fn kind(word: &str) -> Result<Kind, LineFault>
+    ensures { IfOk result (λ k. word.now ≡ kind_word (channels_of k)) }
+{
     match word {
         "gray" => Ok(Kind::Gray),
         "rgb" => Ok(Kind::Rgb),
@@ -34,46 +41,76 @@ fn kind(word: &str) -> Result<Kind, LineFault> {
     }
 }
 
-/// Samples of 8 bits, where each word is one.
-fn eight(alloc: Global, words: &[&str]) -> Result<Option<Samples>, NoMemory> {
+/// 8 or 16 bits.
+fn depth(word: &str) -> Result<Depth, LineFault>
+    ensures { IfOk result (λ d. word.now ≡ depth_word d) }
+{
+    match word {
+        "8" => Ok(Depth::Eight),
+        "16" => Ok(Depth::Sixteen),
+        _ => Err(LineFault::Bad),
+    }
+}
+
+/// The sample of 8 bits that a word is.
+fn byte_of(word: &str) -> Result<u8, LineFault>
+    ensures { IfOk result (IsNumber word.now) }
+{
+    match word.parse::<u8>() {
+        Ok(sample) => Ok(sample),
+        Err(_) => Err(LineFault::Bad),
+    }
+}
+
+/// The sample of 16 bits that a word is.
+fn pair_of(word: &str) -> Result<u16, LineFault>
+    ensures { IfOk result (IsNumber word.now) }
+{
+    match word.parse::<u16>() {
+        Ok(sample) => Ok(sample),
+        Err(_) => Err(LineFault::Bad),
+    }
+}
+
+/// Adds an item.
+fn push<T: Drop>(items: &mut Vec<T>, item: T) -> Result<(), NoMemory>
+    ensures { OnOk result (items.new.items ≡ items.old.items ++ item ∷ []) }
+{
+    items.push(item)?;
+    Ok(())
+}
+
+/// Samples of 8 bits, each of which is a word.
+fn eight(alloc: Global, words: &[&str]) -> Result<Vec<u8>, LineFault>
+    ensures { IfOk result (λ samples. AreNumbers words.now samples.items) }
+{
     let mut samples = Vec::new(alloc);
     for word in words {
-        match word.parse::<u8>() {
-            Ok(sample) => samples.push(sample)?,
-            Err(_) => return Ok(None),
-        }
+        push(&mut samples, byte_of(word)?)?;
     }
-    Ok(Some(Samples::Eight(samples)))
+    Ok(samples)
 }
 
-/// Samples of 16 bits, where each word is one.
-fn sixteen(alloc: Global, words: &[&str]) -> Result<Option<Samples>, NoMemory> {
+/// Samples of 16 bits, each of which is a word.
+fn sixteen(alloc: Global, words: &[&str]) -> Result<Vec<u16>, LineFault>
+    ensures { IfOk result (λ samples. AreNumbers words.now samples.items) }
+{
     let mut samples = Vec::new(alloc);
     for word in words {
-        match word.parse::<u16>() {
-            Ok(sample) => samples.push(sample)?,
-            Err(_) => return Ok(None),
-        }
+        push(&mut samples, pair_of(word)?)?;
     }
-    Ok(Some(Samples::Sixteen(samples)))
+    Ok(samples)
 }
 
-/// Samples of 8 or of 16 bits, where each word is one.
-fn samples(alloc: Global, bits: &str, words: &[&str]) -> Result<Option<Samples>, NoMemory> {
-    match bits {
-        "8" => eight(alloc, words),
-        "16" => sixteen(alloc, words),
-        _ => Ok(None),
+/// Samples of so many bits, each of which is a word.
+fn samples(alloc: Global, depth: Depth, words: &[&str]) -> Result<Samples, LineFault>
+    ensures values { IfOk result (λ s. AreNumbers words.now (values_of s)) }
+    ensures depth { IfOk result (λ s. depth_of s ≡ depth) }
+{
+    match depth {
+        Depth::Eight => Ok(Samples::Eight(eight(alloc, words)?)),
+        Depth::Sixteen => Ok(Samples::Sixteen(sixteen(alloc, words)?)),
     }
-}
-
-/// Texts of words.
-fn texts(alloc: Global, words: &[&str]) -> Result<Vec<String>, NoMemory> {
-    let mut texts = Vec::new(alloc);
-    for word in words {
-        texts.push(String::from_str(alloc, word)?)?;
-    }
-    Ok(texts)
 }
 
 /// How many samples there are.
@@ -86,37 +123,84 @@ fn len_of(samples: &Samples) -> usize
     }
 }
 
-/// The picture of these sides, where there are as many samples as it has.
-fn raster(dim: Dim, kind: Kind, samples: Samples) -> Option<Raster> {
-    match kind.count(dim) {
-        Some(count) if count == len_of(&samples) => Some(Raster::from_samples(dim, kind, samples)),
-        _ => None,
-    }
-}
-
-/// `picture NAME gray|rgb 8|16 WIDTH HEIGHT SAMPLE..`
-fn picture(alloc: Global, words: &[&str]) -> Result<Item, LineFault> {
-    let kind = kind(word(words, 2)?)?;
-    let dim = Dim {
-        w: side(words, 4)?,
-        h: side(words, 5)?,
-    };
+/// The picture of these sides that words behind the sixth show: each sample, where there are as many as it has.
+fn sampled(
+    alloc: Global,
+    dim: Dim,
+    kind: Kind,
+    depth: Depth,
+    words: &[&str],
+) -> Result<Raster, LineFault>
+    ensures { IfOk result (HasSamples words.now dim kind depth) }
+{
     if words.len() < 6 {
         return Err(LineFault::Bad);
     }
-    let Some(samples) = samples(alloc, word(words, 3)?, &words[6..])? else {
-        return Err(LineFault::Bad);
-    };
-    let name = name(alloc, words, 1)?;
-    match raster(dim, kind, samples) {
-        Some(picture) => Ok(Item { name, picture }),
-        None => Err(LineFault::Bad),
+    let (_, rest) = words.split_at(6);
+    let samples = samples(alloc, depth, rest)?;
+    match kind.count(dim) {
+        Some(count) if count == len_of(&samples) => Ok(Raster::from_samples(dim, kind, samples)),
+        _ => Err(LineFault::Bad),
     }
 }
 
-/// The ring of some names.
-fn ring(alloc: Global, words: &[&str]) -> Result<Ring, LineFault> {
-    match Ring::new(alloc, texts(alloc, words)?) {
+/// Whether the seventh word is the last, and `blank`.
+fn is_blank(words: &[&str]) -> bool
+    ensures { result ≡ true → (length words.now ≡ 7) × WordAt words.now 6 (codes "blank") }
+{
+    if words.len() != 7 {
+        return false;
+    }
+    match word(words, 6) {
+        Ok(word) => word == "blank",
+        Err(_) => false,
+    }
+}
+
+/// The picture of these sides that words behind the sixth show.
+fn show(
+    alloc: Global,
+    dim: Dim,
+    kind: Kind,
+    depth: Depth,
+    words: &[&str],
+) -> Result<Raster, LineFault>
+    ensures { IfOk result (HasSamples words.now dim kind depth) }
+{
+    if is_blank(words) {
+        return Ok(Raster::new(alloc, dim, kind, depth)?);
+    }
+    sampled(alloc, dim, kind, depth, words)
+}
+
+/// `picture NAME gray|rgb 8|16 WIDTH HEIGHT blank`, or each sample in place of `blank`
+fn picture(alloc: Global, words: &[&str]) -> Result<Item, LineFault>
+    ensures { IfOk result (IsPicture words.now) }
+{
+    let name = name(alloc, words, 1)?;
+    let kind = kind(word(words, 2)?)?;
+    let depth = depth(word(words, 3)?)?;
+    let dim = dim(words, 4)?;
+    let picture = show(alloc, dim, kind, depth, words)?;
+    Ok(Item { name, picture })
+}
+
+/// The names for which words stand.
+fn names(alloc: Global, words: &[&str]) -> Result<Vec<String>, LineFault>
+    ensures { IfOk result (λ names. AreNames words.now (names_of names.items)) }
+{
+    let mut names = Vec::new(alloc);
+    for word in words {
+        push(&mut names, decode(alloc, word)?)?;
+    }
+    Ok(names)
+}
+
+/// The ring of the names for which words stand.
+fn ring(alloc: Global, words: &[&str]) -> Result<Ring, LineFault>
+    ensures { IfOk result (AreNames words.now) }
+{
+    match Ring::new(alloc, names(alloc, words)?) {
         Ok(ring) => Ok(ring),
         Err(RingFault::NoMemory) => Err(LineFault::NoMemory),
         Err(_) => Err(LineFault::Bad),
@@ -124,7 +208,9 @@ fn ring(alloc: Global, words: &[&str]) -> Result<Ring, LineFault> {
 }
 
 /// The last version of messages that a node speaks: 1 or 2.
-fn version(word: &str) -> Result<u8, LineFault> {
+fn version(word: &str) -> Result<u8, LineFault>
+    ensures { IfOk result (λ v. ((v ≡ 1) × (word.now ≡ codes "1")) ⊎ ((v ≡ 2) × (word.now ≡ codes "2"))) }
+{
     match word {
         "1" => Ok(1),
         "2" => Ok(2),
@@ -132,42 +218,84 @@ fn version(word: &str) -> Result<u8, LineFault> {
     }
 }
 
+/// How many entries a table keeps: one at least.
+fn entries(words: &[&str]) -> Result<usize, LineFault>
+    ensures { IfOk result (λ n. NumberAt words.now 4 n × (0 < n)) }
+{
+    match count(words, 4)? {
+        0 => Err(LineFault::Bad),
+        room => Ok(room),
+    }
+}
+
 /// `node NAME 1|2 BYTES ENTRIES NAME..`, behind the name its version, and behind the entries the names on its ring
-fn node(alloc: Global, words: &[&str]) -> Result<Setup, LineFault> {
+fn node(alloc: Global, words: &[&str]) -> Result<Setup, LineFault>
+    ensures { IfOk result (IsNode words.now) }
+{
     if words.len() < 5 {
         return Err(LineFault::Bad);
     }
+    let (_, rest) = words.split_at(5);
     Ok(Setup {
         name: name(alloc, words, 1)?,
-        ring: ring(alloc, &words[5..])?,
+        ring: ring(alloc, rest)?,
         version: version(word(words, 2)?)?,
         limit: number(words, 3)?,
-        room: count(words, 4)?,
+        room: entries(words)?,
     })
 }
 
-/// `limits COLUMNS ROWS`, and behind them `upscale`, where the server scales up
-fn limits(words: &[&str]) -> Result<Limits, LineFault> {
-    let upscale = match words.len() {
-        3 => false,
-        4 => word(words, 3)? == "upscale",
-        _ => return Err(LineFault::Bad),
-    };
-    if words.len() == 4 && !upscale {
-        return Err(LineFault::Bad);
+/// Whether a line of limits lets results be larger than their regions.
+fn upscale(words: &[&str]) -> Result<bool, LineFault>
+    ensures { IfOk result (λ up. ((length words.now ≡ 3) × (up ≡ false))
+        ⊎ ((length words.now ≡ 4) × WordAt words.now 3 (codes "upscale") × (up ≡ true))) }
+{
+    match words.len() {
+        3 => Ok(false),
+        4 => match word(words, 3)? {
+            "upscale" => Ok(true),
+            _ => Err(LineFault::Bad),
+        },
+        _ => Err(LineFault::Bad),
     }
+}
+
+/// `limits COLUMNS ROWS`, and behind them `upscale`, where the server scales up
+fn limits(words: &[&str]) -> Result<Limits, LineFault>
+    ensures { IfOk result (IsLimits words.now) }
+{
     Ok(Limits {
         max_w: side(words, 1)?,
         max_h: side(words, 2)?,
-        upscale,
+        upscale: upscale(words)?,
     })
+}
+
+/// `edge SIDE`: the side of a tile
+fn edge(words: &[&str]) -> Result<u32, LineFault>
+    ensures { IfOk result (λ n. (length words.now ≡ 2) × NumberAt words.now 1 n) }
+{
+    if words.len() != 2 {
+        return Err(LineFault::Bad);
+    }
+    side(words, 1)
+}
+
+/// `room SUMS`: the room of a plan
+fn room(words: &[&str]) -> Result<u64, LineFault>
+    ensures { IfOk result (λ n. (length words.now ≡ 2) × NumberAt words.now 1 n) }
+{
+    if words.len() != 2 {
+        return Err(LineFault::Bad);
+    }
+    number(words, 1)
 }
 
 impl Description {
     /// A world without pictures and nodes: tiles of 256 places a side, images of at most 4096 by 4096 that aren't scaled up, and a room of
     /// 65,536 sums for a plan.
     pub fn new(alloc: Global) -> Description
-        ensures { first_of result ≡ plain_world }
+        ensures { settings_of result ≡ plain_settings }
     {
         Description {
             edge: 256,
@@ -182,33 +310,52 @@ impl Description {
         }
     }
 
-    fn add_item(&mut self, item: Item) -> Result<(), NoMemory> {
+    fn add_item(&mut self, item: Item) -> Result<(), NoMemory>
+        ensures { OnOk result (settings_of self.new
+            ≡ record (settings_of self.old) { items = (settings_of self.old).items ++ item ∷ [] }) }
+    {
         self.items.push(item)?;
         Ok(())
     }
 
-    fn add_setup(&mut self, setup: Setup) -> Result<(), NoMemory> {
+    fn add_setup(&mut self, setup: Setup) -> Result<(), NoMemory>
+        ensures { OnOk result (settings_of self.new
+            ≡ record (settings_of self.old) { setups = (settings_of self.old).setups ++ setup ∷ [] }) }
+    {
         self.setups.push(setup)?;
         Ok(())
     }
 
     /// Sets what the words of a line say; `false`, where they are no setting, and `Bad`, where they are one that can't be read. It is
-    /// as it was
-    /// after `false` and after an `Err`.
+    /// as it was after `false`.
     pub fn set(&mut self, alloc: Global, words: &[&str]) -> Result<bool, LineFault>
-        ensures yes { IfOk result (λ set. set ≡ true → IsSetting words.now) }
+        ensures yes { IfOk result (λ set. set ≡ true → IsSettingOf words.now (settings_of self.old) (settings_of self.new)) }
         ensures no { IfOk result (λ set. set ≡ false → self.new ≡ self.old) }
         ensures bad { IsErrOf result LineFault.Bad → (length words.now ≡ 0) ⊎ IsSetting words.now }
     {
         match word(words, 0)? {
-            "edge" if words.len() == 2 => self.edge = side(words, 1)?,
-            "room" if words.len() == 2 => self.room = number(words, 1)?,
-            "limits" => self.limits = limits(words)?,
-            "picture" => self.add_item(picture(alloc, words)?)?,
-            "node" => self.add_setup(node(alloc, words)?)?,
-            _ => return Ok(false),
+            "edge" => {
+                self.edge = edge(words)?;
+                Ok(true)
+            }
+            "room" => {
+                self.room = room(words)?;
+                Ok(true)
+            }
+            "limits" => {
+                self.limits = limits(words)?;
+                Ok(true)
+            }
+            "picture" => {
+                self.add_item(picture(alloc, words)?)?;
+                Ok(true)
+            }
+            "node" => {
+                self.add_setup(node(alloc, words)?)?;
+                Ok(true)
+            }
+            _ => Ok(false),
         }
-        Ok(true)
     }
 
     /// The world that was described, in which nothing has happened. `Bad`, where no world can begin so.

@@ -15,12 +15,24 @@ use std::io;
 use std::io::ErrorKind;
 use thiserror::Error;
 
+/// What a replay does at an event that isn't allowed.
+#[derive(Clone, Copy, Debug, PartialEq, Eq)]
+pub enum Mode {
+    /// It judges a run: such an event stops it.
+    Judging,
+    /// It explores: the event isn't done, and the next line is read.
+    Exploring,
+}
+
 /// Why a replay ends early.
 #[derive(Clone, Copy, Debug, PartialEq, Eq, Error)]
 pub enum Stop {
     /// A line is bad, by its number: the first such line, where blank lines and comments count, from 1 on.
     #[error("line {0}")]
     Line(u64),
+    /// The event of a line isn't allowed, by the line's number.
+    #[error("line {0}: not now")]
+    NotNow(u64),
     /// Memory was refused.
     #[error("memory")]
     Memory,

@@ -6,7 +6,9 @@ ghost use Rattle.iiif_event_list.specs.Code.{HasSides, HasSourceFault, HasSum, H
 ghost use Rattle.iiif_event_list.specs.declared.fault.LineFault.{LineFault};
 ghost use Rattle.iiif_event_list.specs.Spellings.{AddsKey, AreKeys, AreNoEvent, IsDimAt, IsEventOf, IsKey, IsNumbered, IsRectAt};
 ghost use Rattle.iiif_event_list.specs.Spellings.{IsRequestAt};
-ghost use Rattle.iiif_event_list.specs.Spellings.{LineWords, NumberAt, WordAt, count_of};
+ghost use Rattle.iiif_event_list.specs.Spellings.{LineWords, NameAt, Names, NumberAt, WordAt, count_of};
+ghost use Rattle.std.specs.Prelude.{IsUtf8};
+ghost use Rattle.percent_encoding.specs.Percent.{percent_decode};
 
 use crate::fault::LineFault;
 use iiif_keys::{Name, SumKey, TileKey, is_name};
@@ -15,6 +17,7 @@ use iiif_pixel::{Dim, NoMemory, Rect};
 use iiif_request::{Words, parse};
 use iiif_scene::Key;
 use iiif_source::ReadFault;
+use percent_encoding::{DecodeError, percent_decode};
 use std::alloc::Global;
 
 /// The number at a place.
@@ -83,12 +86,24 @@ fn text(alloc: Global, words: &[&str], at: usize) -> Result<String, LineFault>
     Ok(String::from_str(alloc, word(words, at)?)?)
 }
 
+/// The text for which a name's word stands, percent-decoded.
+pub(crate) fn decode(alloc: Global, word: &str) -> Result<String, LineFault>
+    ensures read { IfOk result (λ t. Names word.now (string_bytes t)) }
+    ensures bad { BadUnless (IsUtf8 (percent_decode word.now)) result }
+{
+    match percent_decode(word.as_bytes()).decode_utf8(alloc) {
+        Ok(text) => Ok(text.into_owned(alloc)?),
+        Err(DecodeError::Utf8(_)) => Err(LineFault::Bad),
+        Err(DecodeError::OutOfMemory) => Err(LineFault::NoMemory),
+    }
+}
+
 /// The name at a place.
 pub(crate) fn name(alloc: Global, words: &[&str], at: usize) -> Result<Name, LineFault>
-    ensures read { IfOk result (WordAt words.now at) }
+    ensures read { IfOk result (NameAt words.now at) }
     ensures bad { BadUnless (HasName words.now at) result }
 {
-    let text = text(alloc, words, at)?;
+    let text = decode(alloc, word(words, at)?)?;
     if !is_name(text.as_str()) {
         return Err(LineFault::Bad);
     }
@@ -172,7 +187,7 @@ fn rect(words: &[&str], at: usize) -> Result<Rect, LineFault>
 }
 
 /// The sides of two numbers from a place on.
-fn dim(words: &[&str], at: usize) -> Result<Dim, LineFault>
+pub(crate) fn dim(words: &[&str], at: usize) -> Result<Dim, LineFault>
     requires { at + 1 < 2 ^ 32 }
     ensures read { IfOk result (IsDimAt words.now at) }
     ensures bad { BadUnless (HasSides words.now at) result }

@@ -1,7 +1,7 @@
 //! All rows of a world, as text.
 
 use crate::values::{
-    class_word, put_answer, put_fault, put_key, put_numbers, put_outcome, put_value,
+    class_word, put_answer, put_fault, put_key, put_name, put_numbers, put_outcome, put_value,
 };
 use iiif_machine::{
     Ask, Call, CallState, Flight, Given, Progress, Purpose, Reply, RequestRow, Stage,
@@ -73,8 +73,9 @@ fn put_node(text: &mut String, number: usize, node: &Node) -> Result<(), NoMemor
 }
 
 fn put_given(text: &mut String, number: usize, given: &Given) -> Result<(), NoMemory> {
-    let name = given.name.as_str();
-    write!(text, "given {}: node {} {} ", number, given.node, name)?;
+    write!(text, "given {}: node {} ", number, given.node)?;
+    put_name(text, &given.name)?;
+    text.push_str(" ")?;
     put_fault(text, &given.fault)?;
     text.push_str("\n")
 }
@@ -92,12 +93,9 @@ fn put_progress(text: &mut String, progress: &Progress) -> Result<(), NoMemory> 
 }
 
 fn put_request(text: &mut String, number: usize, wanted: &RequestRow) -> Result<(), NoMemory> {
-    let name = wanted.info.name.as_str();
-    write!(
-        text,
-        "request {}: node {} {} ",
-        number, wanted.info.node, name
-    )?;
+    write!(text, "request {}: node {} ", number, wanted.info.node)?;
+    put_name(text, &wanted.info.name)?;
+    text.push_str(" ")?;
     put_progress(text, &wanted.progress)?;
     text.push_str("\n")
 }

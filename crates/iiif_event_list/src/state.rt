@@ -14,6 +14,15 @@ pub enum State {
     Lost,
 }
 
+/// What a line came to.
+#[derive(Drop)]
+pub struct LineOutcome {
+    /// What is written of it.
+    pub text: String,
+    /// Whether it is no event, or one that was allowed.
+    pub allowed: bool,
+}
+
 /// The lines that were read so far: a description, or a world that has begun.
 #[derive(Drop)]
 pub struct Replay {

@@ -6,13 +6,14 @@ ghost use Rattle.iiif_pixel.specs.Geometry.{channels_of, top_of};
 ghost use Rattle.iiif_pixel.specs.Depths.{span_values};
 ghost use Rattle.iiif_event_list.specs.Texts.{answer_text, bits_word, fault_text, kind_word, picture_text, refusal_word, spaced};
 
-use iiif_keys::{SumKey, SumVal, TileKey, TileVal};
+use iiif_keys::{Name, SumKey, SumVal, TileKey, TileVal};
 use iiif_machine::{Answer, Numbers};
 use iiif_pixel::{Depth, Kind, NoMemory, Raster, Rect, Span};
 use iiif_request::Refusal;
 use iiif_scene::{Key, Value};
 use iiif_source::ReadFault;
 use iiif_tables::Class;
+use percent_encoding::{CONTROLS, utf8_percent_encode};
 
 /// Places and sides, each behind a space.
 fn put_sides(text: &mut String, sides: &[u32]) -> Result<(), NoMemory> {
@@ -27,15 +28,24 @@ fn put_rect(text: &mut String, rect: Rect) -> Result<(), NoMemory> {
     put_sides(text, &[rect.x, rect.y, rect.w, rect.h])
 }
 
+/// A name's word: its controls, spaces and percent signs, and what isn't ASCII, percent-encoded.
+pub(crate) fn put_name(text: &mut String, name: &Name) -> Result<(), NoMemory> {
+    let escaped = CONTROLS.add(b' ').add(b'%');
+    utf8_percent_encode(name.as_str(), escaped).append_to(text)
+}
+
 /// The key of a tile, in the words by which an event names it.
 fn put_tile_key(text: &mut String, key: &TileKey) -> Result<(), NoMemory> {
-    write!(text, "tile {}", key.name.as_str())?;
+    text.push_str("tile ")?;
+    put_name(text, &key.name)?;
     put_sides(text, &[key.edge, key.tx, key.ty])
 }
 
 /// The key of a sum, in the words by which an event names it.
 fn put_sum_key(text: &mut String, key: &SumKey) -> Result<(), NoMemory> {
-    write!(text, "sum {} {}", key.name.as_str(), key.edge)?;
+    text.push_str("sum ")?;
+    put_name(text, &key.name)?;
+    put_sides(text, &[key.edge])?;
     put_rect(text, key.rect)?;
     let (size, level) = (key.size, u32::from(key.level));
     put_sides(text, &[size.w, size.h, level, key.bx, key.by])

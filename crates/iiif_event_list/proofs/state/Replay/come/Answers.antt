@@ -1,25 +1,24 @@
-use Rattle.std.proofs.Common.{◌≡◌, ℕ, List, [], codes, Result, Ok, Err, refl, string_bytes}
+use Rattle.std.proofs.Common.{◌≡◌, true, ℕ, List, [], codes, Result, Ok, Err, refl, string_bytes}
 use Rattle.std.specs.Prelude.{IfOk, OnOk}
-use Rattle.std.specs.declared.string.String.{String}
-use Rattle.std.specs.declared.alloc.Global.{Global}
 use Rattle.iiif_machine.specs.declared.events.Event.{Event}
 use Rattle.iiif_event_list.specs.declared.fault.LineFault.{LineFault}
 use Rattle.iiif_event_list.specs.declared.state.State.{State}
+use Rattle.iiif_event_list.specs.declared.state.LineOutcome.{LineOutcome}
 use Rattle.iiif_event_list.specs.Spellings.{LineWords}
 use Rattle.iiif_event_list.specs.Replays.{Comes, HasBegun, IsAlone, IsNew, ended_text, next, shown, world_in}
 use Rattle.iiif_event_list.proofs.state.Replay.come.Goals as goal
 
-next_comes : (number : ℕ) (line : List ℕ) (ws : LineWords) (s t : State) (r : Result (String Global) LineFault) →
-    IsAlone ws (codes "world") → OnOk r (IsNew t) → IfOk r (λ text. string_bytes text ≡ ended_text s) →
-    IfOk r (λ text. (done : List Event) × Comes number line ws s done t (string_bytes text))
-next_comes number line ws s t (Ok text) is new ended = ([], next is new refl ended)
+next_comes : (number : ℕ) (line : List ℕ) (ws : LineWords) (s t : State) (r : Result LineOutcome LineFault) →
+    IsAlone ws (codes "world") → OnOk r (IsNew t) → IfOk r (λ o. (o.allowed ≡ true) × (string_bytes o.text ≡ ended_text s)) →
+    IfOk r (λ o. (done : List Event) × Comes number line ws s o.allowed done t (string_bytes o.text))
+next_comes number line ws s t (Ok o) is new ended = ([], next is new ended.0 refl ended.1)
 next_comes number line ws s t (Err f) is new ended = tt
 
-shown_comes : (number : ℕ) (line : List ℕ) (ws : LineWords) (s t : State) (r : Result (String Global) LineFault) →
-    IsAlone ws (codes "rows") → OnOk r (world_in t ≡ world_in s) → OnOk r (HasBegun t) →
-    IfOk r (λ text. (done : List Event) × Comes number line ws s done t (string_bytes text))
-shown_comes number line ws s t (Ok text) is same begun = ([], shown (record { alone = is; stands = same; begun = begun }) refl)
-shown_comes number line ws s t (Err f) is same begun = tt
+shown_comes : (number : ℕ) (line : List ℕ) (ws : LineWords) (s t : State) (r : Result LineOutcome LineFault) →
+    IsAlone ws (codes "rows") → IfOk r (λ o. o.allowed ≡ true) → OnOk r (world_in t ≡ world_in s) → OnOk r (HasBegun t) →
+    IfOk r (λ o. (done : List Event) × Comes number line ws s o.allowed done t (string_bytes o.text))
+shown_comes number line ws s t (Ok o) is fine same begun = ([], shown (record { alone = is; stands = same; begun = begun }) fine refl)
+shown_comes number line ws s t (Err f) is fine same begun = tt
 
 pub returns-then-is_alone-clause-comes : goal.returns-then-is_alone-clause-comes
 returns-then-is_alone-clause-comes c =
@@ -29,4 +28,4 @@ returns-then-is_alone-clause-comes c =
 pub returns-then-is_alone-2-clause-comes : goal.returns-then-is_alone-2-clause-comes
 returns-then-is_alone-2-clause-comes c =
     shown_comes c.args.number c.args.line.now c.args.words.now c.args.self.now.state c.show.new.self.state c.show.result
-    (c.is_alone-2.ensures.yes c.if-is_alone-2.true) c.show.ensures.same c.show.ensures.begun
+    (c.is_alone-2.ensures.yes c.if-is_alone-2.true) c.show.ensures.fine c.show.ensures.same c.show.ensures.begun
