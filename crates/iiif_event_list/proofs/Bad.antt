@@ -60,6 +60,9 @@ not_bad P f is = subst (IsBadUnless P) (sym is) tt
 pub same_word : (ws : LineWords) (i : ℕ) (v w : List ℕ) → WordAt ws i v → WordAt ws i w → v ≡ w
 same_word ws i v w a b = sym a.2 ∙ (ap (λ (x : Bor (List ℕ)). x.now) (same_Some a.0 b.0 (sym a.1 ∙ b.1)) ∙ b.2)
 
+pub first_is : (ws : LineWords) (v w : List ℕ) → WordAt ws 0 v → v ≡ w → WordAt ws 0 w
+first_is ws v w at is = (at.0, at.1, at.2 ∙ is)
+
 pub no_word : (ws : LineWords) (i : ℕ) → slice_get ws i ≡ None → ¬ (HasWord ws i)
 no_word ws i none h = none-some h.1.0 (sym none ∙ h.1.1)
 

@@ -1,5 +1,5 @@
 -- What splitting at white space gives are the words.
-use Rattle.std.proofs.Common.{◌≡◌, ℕ, List, [], ◌∷◌, Some, None, Bor, refl, slice_get, subst, sym, ◌∙◌}
+use Rattle.std.proofs.Common.{◌≡◌, ℕ, List, [], ◌∷◌, Some, None, Bor, refl, slice_get, subst, sym}
 use Rattle.std.specs.Iterator.{Yields}
 use Rattle.std.specs.Str.Iter.{split_whitespace_rest, split_whitespace_steps}
 use Rattle.iiif_event_list.specs.Spellings.{LineWords, WordAt}
@@ -25,6 +25,3 @@ comment_at ws x at is = subst (λ (w : List ℕ). slice_get w 0 ≡ Some 35) (sa
 
 pub alone_at : (ws : LineWords) (v w : List ℕ) → WordAt ws 0 v → IsAlone ws w → v ≡ w
 alone_at ws v w at is = same_word ws 0 v w at is.1
-
-pub first_is : (ws : LineWords) (v w : List ℕ) → WordAt ws 0 v → v ≡ w → WordAt ws 0 w
-first_is ws v w at is = (at.0, at.1, at.2 ∙ is)

@@ -15,7 +15,7 @@ use std::io;
 use std::io::ErrorKind;
 use thiserror::Error;
 
-/// What a replay does at an event that isn't allowed.
+/// Behaviour of a replay at an event that isn't allowed.
 #[derive(Clone, Copy, Debug, PartialEq, Eq)]
 pub enum Mode {
     /// It judges a run: such an event stops it.

@@ -154,7 +154,7 @@ fn put_said(text: &mut String, flights: usize, event: &Event, world: &World) -> 
     }
 }
 
-/// What an event that was done came to: `done`, and what is said of it.
+/// Text of an event that was done: `done`, and what is said of it.
 fn done_word(
     alloc: Global,
     flights: usize,
@@ -347,7 +347,7 @@ impl LineOutcome {
     }
 }
 
-/// What no event came to.
+/// Makes the outcome of a line that is no event, with this text.
 fn told(text: Result<String, NoMemory>) -> Result<LineOutcome, LineFault>
     ensures fine { IfOk result (λ o. o.allowed ≡ true) }
     ensures never { NeverBad result }

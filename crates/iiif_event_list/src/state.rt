@@ -14,10 +14,10 @@ pub enum State {
     Lost,
 }
 
-/// What a line came to.
+/// Outcome of a line.
 #[derive(Drop)]
 pub struct LineOutcome {
-    /// What is written of it.
+    /// Text that is written of it.
     pub text: String,
     /// Whether it is no event, or one that was allowed.
     pub allowed: bool,

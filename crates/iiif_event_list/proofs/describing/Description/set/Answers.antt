@@ -2,8 +2,7 @@ use Rattle.std.proofs.Common.{codes, inl, refl}
 use Rattle.std.proofs.lemmas.Result.{err_from_is_err_and}
 use Rattle.iiif_event_list.specs.Code.{HasWord}
 use Rattle.iiif_event_list.specs.Settings.{edge, limits, node, picture, room}
-use Rattle.iiif_event_list.proofs.Bad.{bad_is, bad_on, wordless}
-use Rattle.iiif_event_list.proofs.Words.{first_is}
+use Rattle.iiif_event_list.proofs.Bad.{bad_is, bad_on, first_is, wordless}
 use Rattle.iiif_event_list.proofs.describing.Description.set.Goals as goal
 
 pub returns-in_ok-self-in-edge-clause-yes : goal.returns-in_ok-self-in-edge-clause-yes
