@@ -1,6 +1,7 @@
 //! Connections of other nodes.
 
 use crate::connections::ends;
+use crate::passes::TakenPasses;
 use crate::times::Times;
 use iiif_keys::{SumKey, System, TileKey};
 use iiif_listener::{OpenConnections, Pace, PacedWriter, Serve, Visit, close};
@@ -53,12 +54,12 @@ impl<
         ) else {
             return false;
         };
-        let Some(mut passes) = self.node.pass(rt) else {
+        let Some(mut passes) = TakenPasses::take(rt, alloc, self.node, 1) else {
             return false;
         };
         self.node
-            .serve_peer(rt, alloc, &mut passes, &mut reader, &mut out);
-        self.node.give_back(rt, passes);
+            .serve_peer(rt, alloc, &mut passes.lend()[0], &mut reader, &mut out);
+        passes.give_back(rt, self.node);
         let PacedWriter { stream, .. } = out;
         close(rt, &place, stream);
         true

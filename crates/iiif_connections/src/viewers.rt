@@ -7,7 +7,7 @@ ghost use Rattle.iiif_connections.specs.Held.{AllHeld, terms_of_held};
 ghost use Rattle.iiif_start.specs.Stored.{bytes_of};
 
 use crate::connections::ends;
-use crate::passes::{give_back, take_passes};
+use crate::passes::TakenPasses;
 use crate::times::Times;
 use crate::watcher::Watcher;
 use iiif_io::{Inlet, Outlet};
@@ -114,7 +114,7 @@ where
             came output }
         ensures unanswered { result ≡ false → out.new ≡ out.old }
     {
-        let Some(mut passes) = take_passes(rt, alloc, self.node, self.workers) else {
+        let Some(mut passes) = TakenPasses::take(rt, alloc, self.node, self.workers) else {
             return false;
         };
         let serving = Serving {
@@ -122,8 +122,9 @@ where
             alloc,
             watch: self.watcher,
         };
-        self.node.serve_stream(&serving, &mut passes, reader, out);
-        give_back(rt, self.node, passes);
+        self.node
+            .serve_stream(&serving, passes.lend(), reader, out);
+        passes.give_back(rt, self.node);
         true
     }
 }

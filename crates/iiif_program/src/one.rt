@@ -7,7 +7,7 @@ ghost use Rattle.iiif_program.specs.Alone.{IsAnswerOfHeld};
 ghost use Rattle.iiif_start.specs.Stored.{bytes_of};
 
 use crate::hex::write_hex;
-use iiif_connections::passes::{give_back, take_passes};
+use iiif_connections::passes::TakenPasses;
 use iiif_connections::{Cause, Gate, Link, Node};
 use iiif_io::Outlet;
 use iiif_keys::{Fault, SumKey, System, TileKey};
@@ -47,11 +47,11 @@ where
         × IsAnswerOfHeld (bytes_of R.holds) node.now.settings node.now.items target.now ((before : O) × O.fails before out.new) text
         result }
 {
-    let Some(mut passes) = take_passes(rt, alloc, node, workers) else {
+    let Some(mut passes) = TakenPasses::take(rt, alloc, node, workers) else {
         return Err(Stop::Memory);
     };
-    let sent = node.send_body(rt, alloc, &mut passes, target.as_bytes(), out);
-    give_back(rt, node, passes);
+    let sent = node.send_body(rt, alloc, passes.lend(), target.as_bytes(), out);
+    passes.give_back(rt, node);
     match sent {
         Ok(_) => Ok(()),
         Err(cut) => Err(stop_by(cut.cause)),
