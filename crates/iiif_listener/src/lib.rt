@@ -8,7 +8,7 @@ pub use flow::{Flow, Rate};
 pub use idle::longest_idle;
 pub use listen::{Serve, serve_each, serve_listener, stop};
 pub use open_connections::OpenConnections;
-pub use pace::{Pace, PacedReader, PacedWriter};
+pub use pace::{Departure, Pace, PacedReader, PacedWriter, write_limit};
 pub use places::{Place, Places, Visit};
 pub use primed_memory::PrimedMemory;
 pub use retry::{Retry, after_failure};

@@ -1,6 +1,6 @@
 //! Limits of time for what a connection sends: a reader and a writer of one stream share when something was last written there.
 
-ghost use Rattle.std.specs.Prelude.{◌≤◌, IfOk, IfSome, length};
+ghost use Rattle.std.specs.Prelude.{◌≤◌, ◌++◌, IfOk, IfSome, length};
 
 use crate::flow::Flow;
 use crate::open_connections::OpenConnections;
@@ -22,9 +22,24 @@ const MOMENT: u64 = 100;
 /// How often it is looked at in that time, at most.
 const LOOKS: u32 = 1000;
 
+/// How many writes in a row take nothing until who reads counts as gone. Each waits for a part of the time: of one that takes a byte at
+/// once and then waits, the wait isn't counted, and is no longer than that part.
+const WRITES: u32 = 10;
+
+/// Why a connection takes no more of an answer.
+#[derive(Clone, Copy, Debug, PartialEq, Eq)]
+pub enum Departure {
+    /// Who reads has closed or reset the connection.
+    Left,
+    /// Nothing was taken for as long as is waited.
+    Stalled,
+    /// It was taken slower than the least rate.
+    Slow,
+}
+
 /// When a connection began, how many milliseconds later something was last read and last written there, whether it was written since it was
-/// last looked at, whether nothing was read since then or since it began, how many bytes of that were a text behind another, and how long
-/// a head may take as a whole.
+/// last looked at, whether nothing was read since then or since it began, how many bytes of that were a text behind another, how long
+/// a head may take as a whole, and whether an answer was found to be taken too slowly, or not at all.
 #[derive(Drop)]
 pub struct Pace {
     start: Instant,
@@ -34,6 +49,8 @@ pub struct Pace {
     between: AtomicBool,
     behind: AtomicU64,
     limit: Duration,
+    slow: AtomicBool,
+    stalled: AtomicBool,
 }
 
 impl Pace {
@@ -47,6 +64,8 @@ impl Pace {
             between: AtomicBool::new(true),
             behind: AtomicU64::new(0),
             limit,
+            slow: AtomicBool::new(false),
+            stalled: AtomicBool::new(false),
         })
     }
 
@@ -65,8 +84,20 @@ impl Pace {
         Ok(())
     }
 
-    /// Something was read.
+    /// Why an answer that was cut off isn't taken any more, as far as its writer found out.
+    pub fn departure(&self) -> Departure {
+        if self.slow.load(Ordering::SeqCst) {
+            Departure::Slow
+        } else if self.stalled.load(Ordering::SeqCst) {
+            Departure::Stalled
+        } else {
+            Departure::Left
+        }
+    }
+
+    /// Something was read: what was to be answered before was taken whole, however slowly.
     fn hear<R: Clock>(&self, rt: &R) -> io::Result<()> {
+        self.slow.store(false, Ordering::SeqCst);
         self.read.store(self.now(rt)?, Ordering::SeqCst);
         Ok(())
     }
@@ -186,7 +217,8 @@ impl<'a, R: Clock + Wait> Inlet for PacedReader<'a, R> {
 }
 
 /// What a connection is sent. Each write begins the time for the next head anew, so it doesn't run while an answer is made. A write fails
-/// where the answer is taken slower than the least rate.
+/// where nothing is taken for as long as is waited, and behind one by which the answer was taken slower than the least rate: an answer
+/// whose last byte was taken isn't cut.
 #[derive(Drop)]
 pub struct PacedWriter<'a, R: Clock> {
     pub stream: TcpStream,
@@ -200,28 +232,55 @@ pub struct PacedWriter<'a, R: Clock> {
     pub flow: Flow,
 }
 
+/// How long a write waits, where nothing may be taken for so long.
+pub fn write_limit(stalled: Duration) -> Duration {
+    stalled / WRITES
+}
+
+/// Whether a write that failed so took nothing in its time.
+fn is_pause(kind: ErrorKind) -> bool {
+    match kind {
+        ErrorKind::WouldBlock | ErrorKind::TimedOut => true,
+        _ => false,
+    }
+}
+
 impl<'a, R: Clock> PacedWriter<'a, R> {
-    /// Takes in a write of so many bytes that began at a moment, where there is a clock: where that fails, so does the next read. An error
-    /// where
-    /// the answer is taken too slowly.
-    fn count(&mut self, begun: io::Result<u64>, bytes: usize, behind: usize) -> io::Result<()> {
+    /// Takes in a write of so many bytes that began at a moment, where there is a clock: where that fails, so does the next read. Where the
+    /// answer is taken too slowly, the next write fails.
+    fn count(&mut self, begun: io::Result<u64>, bytes: usize, behind: usize) {
         let _ = self.pace.begin(self.rt, behind);
         let (Ok(begun), Ok(now)) = (begun, self.pace.now(self.rt)) else {
-            return Ok(());
+            return;
         };
-        if self.flow.take(now.saturating_sub(begun), bytes as u64) {
-            Ok(())
-        } else {
-            Err(io::Error::from(ErrorKind::TimedOut))
+        if !self.flow.take(now.saturating_sub(begun), bytes as u64) {
+            self.pace.slow.store(true, Ordering::SeqCst);
         }
+    }
+
+    /// Writes some of two texts, again where nothing is taken for a while, until that was tried as often as is waited.
+    fn try_both(&mut self, first: &[u8], second: &[u8]) -> io::Result<usize>
+        ensures { IfOk result (λ n. n ≤ length (first.now ++ second.now)) }
+    {
+        if self.pace.slow.load(Ordering::SeqCst) {
+            return Err(io::Error::from(ErrorKind::TimedOut));
+        }
+        for _ in 0..WRITES {
+            match self.stream.put_both(first, second) {
+                Err(error) if is_pause(error.kind()) => {}
+                written => return written,
+            }
+        }
+        self.pace.stalled.store(true, Ordering::SeqCst);
+        Err(io::Error::from(ErrorKind::TimedOut))
     }
 }
 
 impl<'a, R: Clock> Write for PacedWriter<'a, R> {
     fn write(&mut self, bytes: &[u8]) -> io::Result<usize> {
         let begun = self.pace.now(self.rt);
-        let count = self.stream.put(bytes)?;
-        self.count(begun, count, 0)?;
+        let count = self.try_both(bytes, &[])?;
+        self.count(begun, count, 0);
         Ok(count)
     }
 
@@ -251,9 +310,9 @@ impl<'a, R: Clock> Outlet for PacedWriter<'a, R> {
 
     fn put_both(&mut self, first: &[u8], second: &[u8]) -> io::Result<usize> {
         let begun = self.pace.now(self.rt);
-        let count = self.stream.put_both(first, second)?;
+        let count = self.try_both(first, second)?;
         // As where one text is written.
-        self.count(begun, count, second.len())?;
+        self.count(begun, count, second.len());
         Ok(count)
     }
 }
