@@ -391,6 +391,35 @@ def stats_listen_answers_metrics_and_health(program, room):
     words = ["--stats-listen", f"127.0.0.1:{statistics}"]
     with Server(program, ["a=:sample"], words) as server:
         asked(server.port, SAMPLE_TARGET)
+@shows("--folder")
+def a_folder_is_read_at_the_start_alone(program, room):
+    folder = f"{room}/folder_read_once"
+    os.mkdir(folder)
+    os.rename(sample_in(room, "moved_to_a_folder"), f"{folder}/a.tif")
+    words = ["--edge", 2, "--folder", folder]
+    with Server(program, [], words) as server:
+        os.rename(f"{folder}/a.tif", f"{folder}/b.tif")
+        got = [asked(server.port, f"/iiif/{it}/full/max/0/default.tif") for it in ("a", "b")]
+    return got, [(200, sample_file()), (404, b"Q4 identifier\n")], command(program, "--edge", 2, "--folder", "folder")
+
+
+@shows("--skip-unfit")
+def images_that_are_left_out_are_told_and_counted(program, room):
+    got = []
+    for words in (["--skip-unfit"], []):
+        statistics = free_port()
+        words = ["--folder", f"{room}/folder_with_a_file_at_fault", "--stats-listen", f"127.0.0.1:{statistics}", *words]
+        try:
+            with Server(program, [], words) as server:
+                text = page(statistics, "/metrics")[1]
+                got.append([counter(text, it) for it in ("iiif_images", "iiif_images_unfit")])
+                got.append([asked(server.port, f"/iiif/{it}/full/max/0/default.tif")[0] for it in ("good", "bad")])
+                got.append(server.line().splitlines()[0])
+        except Refused:
+            got.append("refused")
+    return got, [[1, 1], [200, 404], "image bad: 4", "refused"], command(program, *words, "--skip-unfit")
+
+
         wait_until(lambda: 'iiif_answers_total{status="200"} 1\n' in page(statistics, "/metrics")[1])
         told = 'iiif_answers_total{status="200"} 1\n' in page(statistics, "/metrics")[1]
         got = [told, page(statistics, "/health"), asked(server.port, "/health")]

@@ -3,7 +3,7 @@
 ghost use Rattle.std.specs.Prelude.{◌≡◌, ◌<◌, ◌≤◌, ◌^◌, IfOk, IfSome};
 
 use clap::{Arg, ArgAction, ArgMatches, Command};
-use iiif_image_list::{Fault, ImageList, ListFault};
+use iiif_image_list::{Fault, FolderFault, FolderImage, ImageList, ListFault};
 use iiif_request::numerals::numeral;
 use std::alloc::Global;
 use std::convert::AsStr;
@@ -84,7 +84,7 @@ const MOST_PORT: u64 = 65_535;
 const MOST_PEERS: usize = 63;
 
 /// The options that take one text each: the name, what the text is, and the help.
-static OPTIONS: [(&str, &str, &str); 18] = [
+static OPTIONS: [(&str, &str, &str); 19] = [
     ("base", "URL", "the URL that begins each image's"),
     ("edge", "PIXELS", "the edge of a tile, 256 if left out"),
     (
@@ -101,6 +101,11 @@ static OPTIONS: [(&str, &str, &str); 18] = [
         "cache-entries",
         "COUNT",
         "the most tiles, and sums, that are kept, 4096 each if left out",
+    ),
+    (
+        "folder",
+        "DIR",
+        "a folder whose files NAME.tif and NAME.tiff are images, too",
     ),
     (
         "hold",
@@ -166,11 +171,15 @@ static OPTIONS: [(&str, &str, &str); 18] = [
 ];
 
 /// The options that take nothing: the name, and the help.
-static FLAGS: [(&str, &str); 5] = [
+static FLAGS: [(&str, &str); 6] = [
     ("upscale", "answer sizes with ^ above the region's"),
     ("hex", "write the answer's bytes as hexadecimal digits"),
     ("check", "open all images, write a line for each, and end"),
     ("log", "write a line for each answer to standard error"),
+    (
+        "skip-unfit",
+        "leave out images that can't be served, and serve the others",
+    ),
     (
         "peer-only",
         "close connections of other nodes that come from no --peer's address",
@@ -214,6 +223,15 @@ pub enum LineFault {
     /// A line of the list of images is at fault.
     #[error("image")]
     List(ListFault),
+    /// The folder of images can't be read.
+    #[error("image")]
+    UnreadFolder,
+    /// A file of the folder of images has a name that isn't UTF-8.
+    #[error("image")]
+    FolderEncoding,
+    /// A file of the folder of images is at fault.
+    #[error("image")]
+    Folder(FolderFault),
     #[error("peer")]
     Peer,
     #[error("mode")]
@@ -241,6 +259,13 @@ pub enum Mode<'a> {
         peer_only: bool,
     },
     Check,
+}
+
+/// What names images beside the words: the text of the list, and the images of the folder.
+#[derive(Clone, Copy)]
+pub struct Listed<'t> {
+    pub list: &'t [u8],
+    pub folder: &'t [FolderImage],
 }
 
 /// What bounds those whom a node serves and asks.
@@ -276,8 +301,10 @@ pub struct Options<'a> {
     /// How much memory is written to before the program listens, in bytes.
     pub touch_bytes: u64,
     pub limits: Limits,
-    /// Each image's name and file: those of the words, and behind them those of the list.
+    /// Each image's name and file: those of the words, behind them those of the list, and then those of the folder.
     pub images: Vec<(&'a str, &'a str)>,
+    /// Whether images that can't be served are left out, and the others are served.
+    pub skip_unfit: bool,
     /// This node's name, and each other node's name and address.
     pub name: &'a str,
     pub peers: Vec<(&'a str, &'a str)>,
@@ -412,12 +439,12 @@ fn most(text: Option<&str>, default: u64, greatest: u64) -> Option<NonZeroUsize>
     NonZeroUsize::new(number(text, default, greatest)? as usize)
 }
 
-/// The names and files of the images of the words and of the list behind them: at least one, each name of its own and within
-/// its limit.
+/// The names and files of the images of the words, of the list behind them, and of the folder behind that: at least one, each name of its
+/// own and within its limit.
 fn images<'t, 'a: 't>(
     alloc: Global,
     words: &[&'a str],
-    text: &'t [u8],
+    listed: Listed<'t>,
 ) -> Result<Vec<(&'t str, &'t str)>, LineFault> {
     let mut list = ImageList::new(alloc);
     for word in words {
@@ -427,7 +454,7 @@ fn images<'t, 'a: 't>(
             Err(_) => return Err(LineFault::Image),
         }
     }
-    match list.add_text(text) {
+    match list.add_text(listed.list) {
         Ok(()) => {}
         Err(
             ListFault {
@@ -436,6 +463,16 @@ fn images<'t, 'a: 't>(
             },
         ) => return Err(LineFault::NoMemory),
         Err(fault) => return Err(LineFault::List(fault)),
+    }
+    match list.add_files(listed.folder) {
+        Ok(()) => {}
+        Err(
+            FolderFault {
+                fault: Fault::NoMemory,
+                ..
+            },
+        ) => return Err(LineFault::NoMemory),
+        Err(fault) => return Err(LineFault::Folder(fault)),
     }
     match list.into_pairs(alloc) {
         Ok(images) if images.is_empty() => Err(LineFault::Image),
@@ -560,13 +597,13 @@ fn limits_in(matches: &ArgMatches<'_>) -> Result<Limits, LineFault> {
     })
 }
 
-/// The names and files of the images of the words, and of the list behind them.
+/// The names and files of the images of the words, and of what is listed behind them.
 fn images_in<'t, 'a: 't>(
     alloc: Global,
     matches: &ArgMatches<'a>,
-    list: Result<&'t [u8], LineFault>,
+    listed: Result<Listed<'t>, LineFault>,
 ) -> Result<Vec<(&'t str, &'t str)>, LineFault> {
-    images(alloc, matches.get_strs("images").unwrap_or(&[]), list?)
+    images(alloc, matches.get_strs("images").unwrap_or(&[]), listed?)
 }
 
 /// This node's name.
@@ -586,13 +623,13 @@ fn peers_in<'t, 'a: 't>(
     peers(alloc, own, matches.get_strs("peer").unwrap_or(&[]))
 }
 
-/// What the words and the text of the list ask for beside this base URL of theirs, or the first thing that is wrong with them. Where
-/// the list can't be read, that comes in its place, at the images.
+/// What the words and what is listed beside them ask for beside this base URL of theirs, or the first thing that is wrong with them. Where
+/// the list or the folder can't be read, that comes in its place, at the images.
 pub fn options_in<'t, 'a: 't>(
     alloc: Global,
     matches: &ArgMatches<'a>,
     base: &'t str,
-    list: Result<&'t [u8], LineFault>,
+    listed: Result<Listed<'t>, LineFault>,
 ) -> Result<Options<'t>, LineFault>
     ensures { IfOk result (λ o. o.base.now ≡ base.now) }
 {
@@ -619,7 +656,7 @@ pub fn options_in<'t, 'a: 't>(
         touch_bytes,
     } = shares_in(matches)?;
     let limits = limits_in(matches)?;
-    let images = images_in(alloc, matches, list)?;
+    let images = images_in(alloc, matches, listed)?;
     let name = name_in(matches);
     let peers = peers_in(alloc, matches, name)?;
     Ok(Options {
@@ -636,6 +673,7 @@ pub fn options_in<'t, 'a: 't>(
         touch_bytes,
         limits,
         images,
+        skip_unfit: matches.get_flag("skip-unfit"),
         name,
         peers,
         mode: mode_in(matches)?,

@@ -9,14 +9,14 @@ use crate::watcher::Watcher;
 use iiif_keys::System;
 use iiif_listener::{OpenConnections, Pace, PacedWriter, Serve, Visit, close};
 use iiif_metrics::{
-    CacheMetrics, HeldMetrics, Measure, Metrics, PeerMetrics, Service, Services, Visitors,
-    serve_metrics,
+    CacheMetrics, HeldMetrics, ImageMetrics, Measure, Metrics, PeerMetrics, Service, Services,
+    Visitors, serve_metrics,
 };
 use iiif_open_files::Opens;
 use iiif_pixel::NoMemory;
 use iiif_server::{Kept, Node, SumCalls, TileCalls};
 use iiif_services::Listeners;
-use iiif_start::{Held, Stored};
+use iiif_start::{Held, Images, Stored};
 use iiif_tables::Book;
 use std::alloc::Global;
 use std::sync::Wait;
@@ -61,6 +61,17 @@ fn service_of(is_wanted: bool, is_gone: bool) -> Service
     }
 }
 
+/// The images that are served, and those that are left out.
+fn image_metrics(images: Images) -> ImageMetrics
+    ensures served { result.served ≡ images.served }
+    ensures unfit { result.unfit ≡ images.unfit }
+{
+    ImageMetrics {
+        served: images.served,
+        unfit: images.unfit,
+    }
+}
+
 /// What is held in memory of the images' files.
 fn held_metrics(held: Held) -> HeldMetrics
     ensures bytes { result.bytes ≡ held.bytes }
@@ -79,7 +90,8 @@ impl<'a, R: Opens + Wait, J: System, N, T> Measure<R> for Statistics<'a, R, J, N
         Metrics {
             tiles: cache_metrics(tiles.book(rt), tiles.kept(rt)),
             sums: cache_metrics(sums.book(rt), sums.kept(rt)),
-            held: held_metrics(self.watcher.held),
+            images: image_metrics(self.watcher.images),
+            held: held_metrics(self.watcher.images.held),
             counts: self.watcher.tally.counts(rt),
         }
     }

@@ -39,12 +39,14 @@ image_of word = image_with (before_first is_between word) (after_first is_betwee
 abbrev pub has_name : List Image → List ℕ → Bool
 has_name images name = list_any (λ i. bytes_eq name i.name) images
 
--- why a word names no image beside others: it has no =, what stands before it is no name, or there is an image of that name
+-- why there is no place for an image of a name beside others: it is no name, or there is an image of that name
+abbrev pub refusal_of_name : List Image → List ℕ → Option Fault
+refusal_of_name images name = if not (is_name name) then Some Name else (if has_name images name then Some Twice else None)
+
+-- why a word names no image beside others: it has no =, or there is no place for an image of the name before it
 unfoldable pub refusal_of : List Image → List ℕ → Option Fault
 refusal_of images word =
-    if position_or_len is_between word == length word then Some Parts else (
-    if not (is_name (image_of word).name) then Some Name else (
-    if has_name images (image_of word).name then Some Twice else None))
+    if position_or_len is_between word == length word then Some Parts else refusal_of_name images (image_of word).name
 
 -- what speaks against something, or lack of memory
 abbrev pub IsRefusal : Option Fault → Fault → Type 0

@@ -26,3 +26,11 @@ pub struct ListFault {
     pub line: u64,
     pub fault: Fault,
 }
+
+/// The image of a folder that is at fault, counted from 0, and why.
+#[derive(Clone, Copy, Debug, PartialEq, Eq, Error)]
+#[error("file {place}: {fault}")]
+pub struct FolderFault {
+    pub place: usize,
+    pub fault: Fault,
+}

@@ -1,12 +1,14 @@
 //! Images that are named one after another, each by a name of its own.
 
-ghost use Rattle.std.specs.Prelude.{◌≡◌, ◌++◌, ◌∷◌, [], is_some, ◌<◌, OnOk, OnErr, IfOk, IfErr, length};
+ghost use Rattle.std.specs.Prelude.{◌≡◌, ◌++◌, ◌∷◌, [], is_some, ◌<◌, OnOk, OnErr, IfOk, IfErr, length, map};
 ghost use Rattle.std.specs.Str.{IsUtf8};
 ghost use Rattle.std.specs.Str.Lines.{lines};
+ghost use Rattle.iiif_image_list.specs.Folders.{EndsAtFile, image_in};
 ghost use Rattle.iiif_image_list.specs.Lists.{image_of, images_of, has_blank_around, has_name, is_blank, is_loose, line_at, refusal_of};
-ghost use Rattle.iiif_image_list.specs.Lists.{refusal_of_line, shown, unmarked, AreTaken, EndsAtByte, EndsAtLine, IsList, Takes};
+ghost use Rattle.iiif_image_list.specs.Lists.{image_with, refusal_of_line, refusal_of_name, shown, unmarked, AreTaken, EndsAtByte, EndsAtLine, IsList, Takes};
 
-use crate::fault::{Fault, ListFault};
+use crate::fault::{Fault, FolderFault, ListFault};
+use crate::folder::FolderImage;
 use iiif_keys::is_name;
 use indexmap::IndexMap;
 use indexmap::map::Iter;
@@ -59,6 +61,15 @@ impl<'a> ImageList<'a> {
         let Some((name, file)) = word.split_once('=') else {
             return Err(Fault::Parts);
         };
+        self.add_named(name, file)
+    }
+
+    /// Takes the image of a name and a file.
+    pub fn add_named(&mut self, name: &'a str, file: &'a str) -> Result<(), Fault>
+        ensures ok { OnOk result (self.new ≡ self.old ++ image_with name.now file.now ∷ []) }
+        ensures err { OnErr result (self.new ≡ self.old) }
+        ensures takes { Takes (refusal_of_name self.old name.now) result }
+    {
         if !is_name(name) {
             return Err(Fault::Name);
         }
@@ -69,6 +80,21 @@ impl<'a> ImageList<'a> {
             Ok(_) => Ok(()),
             Err(_) => Err(Fault::NoMemory),
         }
+    }
+
+    /// Takes the images of a folder's files, in order. It ends at the first with a fault, counted from 0.
+    pub fn add_files(&mut self, files: &'a [FolderImage]) -> Result<(), FolderFault>
+        ensures taken { OnOk result (self.new ≡ self.old ++ map image_in files.now) }
+        ensures ends { IfErr result (λ f. EndsAtFile self.old files.now f.place f.fault self.new) }
+    {
+        let mut place = 0;
+        for file in files {
+            match self.add_named(file.name.as_str(), file.path.as_str()) {
+                Ok(()) => place += 1,
+                Err(fault) => return Err(FolderFault { place, fault }),
+            }
+        }
+        Ok(())
     }
 
     /// Takes the images of a text, behind its byte order mark where it begins with one: of each line, which a line feed ends, or a

@@ -5,6 +5,7 @@ use Rattle.std.specs.List.{flat_map}
 use Rattle.iiif_metrics.specs.declared.counts.Counts.{Counts}
 use Rattle.iiif_metrics.specs.declared.metrics.CacheMetrics.{CacheMetrics}
 use Rattle.iiif_metrics.specs.declared.metrics.HeldMetrics.{HeldMetrics}
+use Rattle.iiif_metrics.specs.declared.metrics.ImageMetrics.{ImageMetrics}
 use Rattle.iiif_metrics.specs.declared.text.MetricKind.{MetricKind}
 use Rattle.iiif_metrics.specs.declared.text.MetricKind.TheVariants.{Counter, Gauge, Histogram}
 use Rattle.iiif_metrics.specs.declared.text.Row.{Row}
@@ -57,6 +58,13 @@ cache_families front c =
     ∷ single (front ++ codes "faults_total") (codes "Loads that ended with a fault.") Counter c.book.faults
     ∷ single (front ++ codes "bytes") (codes "Bytes of kept values and their keys.") Gauge c.bytes
     ∷ single (front ++ codes "entries") (codes "Kept values.") Gauge c.entries
+    ∷ []
+
+-- the images that the start named, under names with this front
+abbrev pub image_families : List ℕ → ImageMetrics → List Family
+image_families front i =
+    single (front ++ codes "images") (codes "Images that are served.") Gauge i.served
+    ∷ single (front ++ codes "images_unfit") (codes "Images that can't be served, and are left out.") Gauge i.unfit
     ∷ []
 
 -- the images whose files are held in memory, under names with this front

@@ -1,6 +1,6 @@
 -- All that is told to who asks for the counters.
 use Rattle.std.specs.Prelude.{ℕ, List, ◌++◌, codes}
-use Rattle.iiif_metrics.specs.Exposition.{answer_family, cache_families, families_text, family_text, held_families, open_family}
+use Rattle.iiif_metrics.specs.Exposition.{answer_family, cache_families, families_text, family_text, held_families, image_families, open_family}
 use Rattle.iiif_metrics.specs.Exposition.{refused_family, server_families}
 use Rattle.iiif_metrics.specs.Links.{links_text, seconds_text}
 use Rattle.iiif_metrics.specs.declared.metrics.PeerMetrics.{PeerMetrics}
@@ -10,6 +10,7 @@ abbrev pub text_of : Metrics → PeerMetrics → List ℕ
 text_of m p =
     families_text (cache_families (codes "iiif_tile_cache_") m.tiles)
     ++ families_text (cache_families (codes "iiif_sum_cache_") m.sums)
+    ++ families_text (image_families (codes "iiif_") m.images)
     ++ families_text (held_families (codes "iiif_held_") m.held)
     ++ family_text (open_family m.counts.open_now)
     ++ family_text (refused_family m.counts.refused)

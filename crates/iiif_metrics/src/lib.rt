@@ -3,7 +3,9 @@
 
 pub use counts::{Counts, STATUSES, Tally, Visitors};
 pub use health::{Service, Services, services_text};
-pub use metrics::{CacheMetrics, HeldMetrics, LinkMetrics, Metrics, PeerMetrics, Telling};
+pub use metrics::{
+    CacheMetrics, HeldMetrics, ImageMetrics, LinkMetrics, Metrics, PeerMetrics, Telling,
+};
 pub use serve::{Measure, serve_metrics};
 pub use text::{NoMemory, metrics_text};
 

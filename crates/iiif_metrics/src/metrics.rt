@@ -24,11 +24,21 @@ pub struct HeldMetrics {
     pub images: u64,
 }
 
+/// The images that the start named.
+#[derive(Clone, Copy)]
+pub struct ImageMetrics {
+    /// Those that are served.
+    pub served: u64,
+    /// Those that can't be, and are left out.
+    pub unfit: u64,
+}
+
 /// What a server counted since it was started, and what it holds.
 #[derive(Clone, Copy)]
 pub struct Metrics {
     pub tiles: CacheMetrics,
     pub sums: CacheMetrics,
+    pub images: ImageMetrics,
     pub held: HeldMetrics,
     pub counts: Counts,
 }

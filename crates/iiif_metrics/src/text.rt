@@ -3,6 +3,7 @@
 ghost use Rattle.std.specs.Prelude.{◌≡◌, ◌++◌, ℕ, List, IfOk, OnOk, map, string_bytes};
 ghost use Rattle.std.specs.List.{flat_map};
 ghost use Rattle.iiif_metrics.specs.Exposition.{answer_family, cache_families, family_of, family_text, families_text, held_families};
+ghost use Rattle.iiif_metrics.specs.Exposition.{image_families};
 ghost use Rattle.iiif_metrics.specs.Exposition.{help_line, kind_word, listener_samples, open_family, refused_family, row_family};
 ghost use Rattle.iiif_metrics.specs.Exposition.{sample_line, sample_view, server_families, single, status_samples, type_line};
 ghost use Rattle.iiif_metrics.specs.Page.{text_of};
@@ -10,7 +11,7 @@ ghost use Rattle.iiif_metrics.specs.declared.text.MetricKind.TheVariants as Metr
 
 use crate::counts::Counts;
 use crate::links::{push_links, push_seconds};
-use crate::metrics::{CacheMetrics, HeldMetrics, Metrics, PeerMetrics};
+use crate::metrics::{CacheMetrics, HeldMetrics, ImageMetrics, Metrics, PeerMetrics};
 pub use std::alloc::AllocError as NoMemory;
 use std::alloc::Global;
 use std::fmt::Write;
@@ -196,6 +197,20 @@ fn held_rows(held: &HeldMetrics) -> [Row<'static>; 2]
     ]
 }
 
+/// The images that the start named.
+fn image_rows(images: &ImageMetrics) -> [Row<'static>; 2]
+    ensures { (front : List ℕ) → map (row_family front) result ≡ image_families front images.now }
+{
+    [
+        gauge("images", "Images that are served.", images.served),
+        gauge(
+            "images_unfit",
+            "Images that can't be served, and are left out.",
+            images.unfit,
+        ),
+    ]
+}
+
 /// What was counted of answers, whatever their status.
 fn server_rows(counts: &Counts) -> [Row<'static>; 2]
     ensures { (front : List ℕ) → map (row_family front) result ≡ server_families front counts.now }
@@ -330,6 +345,7 @@ pub fn metrics_text(
     let mut text = String::with_capacity(alloc, USUAL_LENGTH)?;
     push_rows(&mut text, "iiif_tile_cache_", &cache_rows(&metrics.tiles))?;
     push_rows(&mut text, "iiif_sum_cache_", &cache_rows(&metrics.sums))?;
+    push_rows(&mut text, "iiif_", &image_rows(&metrics.images))?;
     push_rows(&mut text, "iiif_held_", &held_rows(&metrics.held))?;
     push_open(&mut text, &metrics.counts.open_now)?;
     push_refused(&mut text, &metrics.counts.refused)?;

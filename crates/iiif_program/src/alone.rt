@@ -82,6 +82,7 @@ where
         config,
         catalogue,
         room,
+        ..
     } = alone;
     let workers = config.workers();
     let (tiles, sums) = blanks;

@@ -49,7 +49,7 @@ where
     E: Outlet + Send,
     requires { refusal_of (settings_in options.now) ≡ None }
 {
-    let made = open_makings(rt, alloc, options)?;
+    let made = open_makings(rt, alloc, options, err)?;
     let watcher = watcher_of(alloc, options, &made, listening.logs)?;
     let post = Post {
         options,
@@ -92,6 +92,7 @@ where
         config,
         catalogue,
         room,
+        ..
     } = made;
     let (alloc, workers) = (rt.alloc(), config.workers());
     let (tiles, sums) = blanks;
@@ -130,6 +131,7 @@ where
         config,
         catalogue,
         room,
+        ..
     } = made;
     let (alloc, workers) = (rt.alloc(), config.workers());
     match among::<R, J>(alloc, config, catalogue, post.watcher, room, blanks) {

@@ -8,23 +8,26 @@ use crate::settings::config;
 use iiif_command_line::Options;
 use iiif_connections::{Catalogue, Config, Nodes, Room, Times, Watcher};
 use iiif_open_files::Opens;
-use iiif_start::{Held, Stop, Stored, open_catalogue};
+use iiif_start::{Held, Images, Opening, Stop, Stored, open_images, report_unfit};
 use std::alloc::Global;
+use std::io::Write;
 use std::sync::Wait;
 
-/// What a node is made of: what it was told, its images, and the room of each group's cache.
+/// What a node is made of: what it was told, its images, and the room of each group's cache; and how many images were left out.
 #[derive(Drop)]
 pub struct Makings<R: Opens + Wait> {
     pub config: Config,
     pub catalogue: Catalogue<R, Stored<R>>,
     pub room: Room,
+    pub unfit: u64,
 }
 
-/// What the node of the options is made of: the images are opened.
-pub(crate) fn open_makings<'a, R: Opens + Wait>(
+/// What the node of the options is made of: the images are opened. Of those that are left out it is said why they can't be served.
+pub(crate) fn open_makings<'a, R: Opens + Wait, E: Write>(
     rt: &R,
     alloc: Global,
     options: &Options<'a>,
+    err: &mut E,
 ) -> Result<Makings<R>, Stop<'a>>
     requires { refusal_of (settings_in options.now) ≡ None }
     ensures config { IfOk result (λ m. m.config ≡ settings_in options.now) }
@@ -32,11 +35,18 @@ pub(crate) fn open_makings<'a, R: Opens + Wait>(
     ensures entries { IfOk result (λ m. m.room.entries ≡ options.now.cache_entries) }
 {
     let config = config(alloc, options)?;
-    let (images, hold) = (&options.images, options.hold);
-    let catalogue = open_catalogue(rt, alloc, images, options.open_files, hold)?;
+    let opening = Opening {
+        open_files: options.open_files,
+        hold: options.hold,
+        skip_unfit: options.skip_unfit,
+    };
+    let opened = open_images(rt, alloc, &options.images, opening)?;
+    // Where that can't be written, the others are served all the same.
+    let _ = report_unfit(err, &opened.unfit);
     Ok(Makings {
         config,
-        catalogue,
+        unfit: opened.unfit.len() as u64,
+        catalogue: opened.catalogue,
         room: Room {
             bytes: options.cache_bytes,
             entries: options.cache_entries,
@@ -58,7 +68,12 @@ pub(crate) fn watcher_of<'a, R: Opens + Wait>(
         ask: Times::within(options.limits).ask,
     };
     let held = Held::among(&made.catalogue, &options.images);
-    match Watcher::new(alloc, logs, held, &nodes) {
+    let images = Images {
+        served: (options.images.len() as u64).saturating_sub(made.unfit),
+        unfit: made.unfit,
+        held,
+    };
+    match Watcher::new(alloc, logs, images, &nodes) {
         Ok(watcher) => Ok(watcher),
         Err(_) => Err(Stop::Memory),
     }

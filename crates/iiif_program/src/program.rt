@@ -10,11 +10,12 @@ use crate::target::answer_target;
 use crate::work::Work;
 use clap::ArgMatches;
 use clap::error::ErrorKind;
-use iiif_command_line::{Options, matches};
+use iiif_command_line::{LineFault, Listed, Options, matches};
+use iiif_image_list::FolderImage;
 use iiif_io::Outlet;
 use iiif_open_files::{Opens, Texts};
 use iiif_start::check::check;
-use iiif_start::{Stop, read_list, report_end, report_fault, warn};
+use iiif_start::{Origins, Stop, read_folder, read_list, report_end, report_fault, warn};
 use std::alloc::Global;
 use std::convert::AsStr;
 use std::net::{Net, TcpListener, TcpStream};
@@ -75,6 +76,36 @@ where
     }
 }
 
+/// What is listed beside the words: the text of the list, and the images of the folder.
+fn listed_in<'t>(
+    text: &'t Result<Vec<u8>, LineFault>,
+    images: &'t Result<Vec<FolderImage>, LineFault>,
+) -> Result<Listed<'t>, LineFault> {
+    match (text, images) {
+        (Ok(text), Ok(images)) => Ok(Listed {
+            list: text.as_slice(),
+            folder: images.as_slice(),
+        }),
+        (Err(fault), _) => Err(*fault),
+        (_, Err(fault)) => Err(*fault),
+    }
+}
+
+/// What that was read of.
+fn origins_in<'t, 'a: 't>(
+    matches: &ArgMatches<'a>,
+    images: &'t Result<Vec<FolderImage>, LineFault>,
+) -> Origins<'t> {
+    Origins {
+        list: matches.get_str("list"),
+        folder: matches.get_str("folder"),
+        images: match images {
+            Ok(images) => images.as_slice(),
+            Err(_) => &[],
+        },
+    }
+}
+
 /// Answers what the parsed words ask for.
 fn answer_matches<R, O, E>(
     rt: &R,
@@ -98,13 +129,11 @@ where
     ensures { result ≤ 2 }
 {
     let text = read_list(rt, alloc, matches);
-    let list = match &text {
-        Ok(text) => Ok(text.as_slice()),
-        Err(fault) => Err(*fault),
-    };
-    let options = match options_of(alloc, matches, list) {
+    let images = read_folder(rt, alloc, matches);
+    let listed = listed_in(&text, &images);
+    let options = match options_of(alloc, matches, listed) {
         Ok(options) => options,
-        Err(fault) => return report_fault(err, fault, matches.get_str("list")),
+        Err(fault) => return report_fault(err, fault, &origins_in(matches, &images)),
     };
     match answer(rt, alloc, &options, out, err) {
         Ok(()) => 0,
@@ -130,7 +159,7 @@ where
 {
     match Work::of(options) {
         Some(Work::Listen(listening)) => return serve(rt, alloc, options, &listening, err),
-        Some(Work::One(one)) => answer_target(rt, alloc, options, &one, out)?,
+        Some(Work::One(one)) => answer_target(rt, alloc, options, &one, out, err)?,
         // A check goes on where an image is at fault, and needs no node.
         None => check(rt, alloc, options, out)?,
     }

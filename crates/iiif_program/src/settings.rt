@@ -7,7 +7,7 @@ ghost use Rattle.iiif_program.specs.Lines.{settings_in};
 
 use clap::ArgMatches;
 use iiif_canonical::Limits;
-use iiif_command_line::{LineFault, Options, options_in};
+use iiif_command_line::{LineFault, Listed, Options, options_in};
 use iiif_connections::{Config, ConfigFault, is_base_url};
 use iiif_start::Stop;
 use std::alloc::Global;
@@ -22,18 +22,18 @@ fn base_in<'a>(matches: &ArgMatches<'a>) -> Result<&'a str, LineFault>
     }
 }
 
-/// What the words and the text of the list ask for, or the first thing that is wrong with them. Where the list can't be read, that
-/// comes in its place, at the images.
+/// What the words and what is listed beside them ask for, or the first thing that is wrong with them. Where the list or the folder can't be
+/// read, that comes in its place, at the images.
 #[tactic(auto, unfolding(iiif_answers::specs::Settings::refusal_of))]
 pub(crate) fn options_of<'t, 'a: 't>(
     alloc: Global,
     matches: &ArgMatches<'a>,
-    list: Result<&'t [u8], LineFault>,
+    listed: Result<Listed<'t>, LineFault>,
 ) -> Result<Options<'t>, LineFault>
     ensures { IfOk result (λ o. refusal_of (settings_in o) ≡ None) }
 {
     let base = base_in(matches)?;
-    options_in(alloc, matches, base, list)
+    options_in(alloc, matches, base, listed)
 }
 
 /// The settings in the options. Those of a line that isn't wrong are legal, so the only error is lack of memory.

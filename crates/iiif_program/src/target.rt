@@ -20,6 +20,7 @@ use iiif_keys::{PARTS, System};
 use iiif_open_files::Opens;
 use iiif_start::Stop;
 use std::alloc::Global;
+use std::io::Write;
 use std::marker::Brand;
 use std::net::{Net, TcpListener, TcpStream};
 use std::rt::Clock;
@@ -27,13 +28,14 @@ use std::sync::Wait;
 use std::sync::ledger::Blank;
 use std::thread::Threads;
 
-/// Writes the body of the answer to a target, by a node as the options ask for.
-pub(crate) fn answer_target<'a, R, O>(
+/// Writes the body of the answer to a target, by a node as the options ask for. Of images that are left out it is said why.
+pub(crate) fn answer_target<'a, R, O, E>(
     rt: &R,
     alloc: Global,
     options: &Options<'a>,
     one: &One<'_>,
     out: &mut O,
+    err: &mut E,
 ) -> Result<(), Stop<'a>>
 where
     R: Opens
@@ -45,9 +47,10 @@ where
         + AllocGlobal,
     R::Handle: Send + Sync,
     O: Outlet,
+    E: Write,
     requires { refusal_of (settings_in options.now) ≡ None }
 {
-    let made = open_makings(rt, alloc, options)?;
+    let made = open_makings(rt, alloc, options, err)?;
     if options.peers.is_empty() {
         return write_one_alone(rt, alloc, made, one, out);
     }
@@ -112,6 +115,7 @@ where
         config,
         catalogue,
         room,
+        ..
     } = made;
     let (alloc, workers) = (rt.alloc(), config.workers());
     let Ok(node) = among::<R, J>(alloc, config, catalogue, watcher, room, blanks) else {

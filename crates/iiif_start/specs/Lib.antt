@@ -1,5 +1,6 @@
 pub mod DotSegments
 pub mod Held
+pub mod Parts
 pub mod Rooms
 pub mod Statuses
 pub mod Stored

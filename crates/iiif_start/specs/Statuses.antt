@@ -1,6 +1,6 @@
 -- The program's statuses.
-use Rattle.std.specs.Prelude.{ℕ, Bool, List, Result, Ok, Err, if◌then◌else◌}
-use Rattle.std.specs.List.{list_any}
+use Rattle.std.specs.Prelude.{ℕ, Bool, ◌&&◌, ◌==◌, not, length, List, Result, Ok, Err, if◌then◌else◌}
+use Rattle.std.specs.List.{list_all, list_any}
 use Rattle.std.specs.Result.{is_err}
 use Rattle.iiif_tiff_read.specs.Faults.{open_number}
 use Rattle.iiif_start.specs.declared.check.Checked.{Checked}
@@ -35,6 +35,10 @@ unfit_number (Refused fault) = open_number fault
 abbrev pub has_unfit : List Checked → Bool
 has_unfit images = list_any (λ c. is_err c.found) images
 
--- how a check of images ends: well where each of them can be served
-abbrev pub end_of : List Checked → Result (Unit {0}) Stop
-end_of images = if has_unfit images then Err Faulty else Ok tt
+-- whether each of them can't be served, and there is one
+abbrev pub has_unfit_alone : List Checked → Bool
+has_unfit_alone images = not (length images == 0) && list_all (λ c. is_err c.found) images
+
+-- how a check of images ends: well where each of them can be served, or one, where those that can't are left out
+abbrev pub end_of : List Checked → Bool → Result (Unit {0}) Stop
+end_of images skip_unfit = if (if skip_unfit then has_unfit_alone images else has_unfit images) then Err Faulty else Ok tt

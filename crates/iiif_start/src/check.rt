@@ -1,7 +1,7 @@
 //! All images opened once, and what they are.
 
 ghost use Rattle.std.specs.Prelude.{◌≡◌, IfOk, map};
-ghost use Rattle.iiif_start.specs.Statuses.{end_of, has_unfit};
+ghost use Rattle.iiif_start.specs.Statuses.{end_of, has_unfit, has_unfit_alone};
 
 use crate::name::Word;
 use crate::opening::{open_image, shelf};
@@ -117,18 +117,31 @@ fn has_unfit(all: &[Checked<'_>]) -> bool
     all.iter().any(|image| image.found.is_err())
 }
 
-/// How the program ends once these images were looked at.
-fn end_of<'a>(all: &[Checked<'a>]) -> Result<(), Stop<'a>>
-    ensures { result ≡ end_of all.now }
+/// Whether each of these images can't be served, and there is one.
+fn has_unfit_alone(all: &[Checked<'_>]) -> bool
+    ensures { result ≡ has_unfit_alone all.now }
 {
-    if has_unfit(all) {
+    !all.is_empty() && all.iter().all(|image| image.found.is_err())
+}
+
+/// How the program ends once these images were looked at, where those that can't be served are left out or aren't.
+fn end_of<'a>(all: &[Checked<'a>], skip_unfit: bool) -> Result<(), Stop<'a>>
+    ensures { result ≡ end_of all.now skip_unfit }
+{
+    let is_refused = if skip_unfit {
+        has_unfit_alone(all)
+    } else {
+        has_unfit(all)
+    };
+    if is_refused {
         Err(Stop::Faulty)
     } else {
         Ok(())
     }
 }
 
-/// Opens all images, and says of each in a line what it is. It is at fault where one of them can't be served.
+/// Opens all images, and says of each in a line what it is. It is at fault where a start would be refused: where one of them can't be
+/// served, or where none can be and those that can't are left out.
 pub fn check<'a, R, O>(
     rt: &R,
     alloc: Global,
@@ -141,5 +154,5 @@ where
 {
     let files = shelf(alloc, options.open_files)?;
     let all = check_each(rt, alloc, &files, &options.images, options.hold, out)?;
-    end_of(&all)
+    end_of(&all, options.skip_unfit)
 }

@@ -20,6 +20,14 @@ pub struct Held {
     pub bytes: u64,
 }
 
+/// The images that a start named: how many are served, how many can't be and are left out, and what is held of them.
+#[derive(Clone, Copy, PartialEq, Eq)]
+pub struct Images {
+    pub served: u64,
+    pub unfit: u64,
+    pub held: Held,
+}
+
 impl Held {
     /// Those of these names and files in a catalogue.
     #[tactic(auto, using(crate::proofs::SourceLemmas::added))]

@@ -4,14 +4,14 @@
 
 pub use check::{Checked, Found};
 pub use dot_segments::warn;
-pub use held::Held;
-pub use opening::{open_catalogue, read_list};
+pub use held::{Held, Images};
+pub use opening::{OpenedImages, Opening, open_images, read_folder, read_list};
 pub use rooms::warn_of_room;
 pub use stop::{Stop, report_end};
 pub use stored::Stored;
 pub use touching::touch;
-pub use unfit::Unfit;
-pub use wrong::report_fault;
+pub use unfit::{Unfit, report_unfit};
+pub use wrong::{Origins, report_fault};
 
 pub mod check;
 pub mod dot_segments;

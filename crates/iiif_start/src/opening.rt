@@ -1,10 +1,11 @@
 //! The images that the words name.
 
-ghost use Rattle.std.specs.Prelude.{◌≡◌, ◌≤◌, IfOk, IfSome, None, length, map, string_bytes, true};
+ghost use Rattle.std.specs.Prelude.{◌≡◌, ◌≤◌, ◌<◌, ◌++◌, ◌∷◌, [], IfOk, IfSome, OnOk, None, length, map, string_bytes, true, false};
 ghost use Rattle.std.specs.Arc.{arc_value};
 ghost use Rattle.std.specs.List.{AllZip};
 ghost use Rattle.iiif_tiff.specs.Tiff.{refusal_of, scheme};
 ghost use Rattle.iiif_tiff_read.specs.Layouts.{FitsIn};
+ghost use Rattle.iiif_start.specs.Parts.{Parts};
 ghost use Rattle.iiif_start.specs.Stored.{bytes_of, is_held, keeps_of, IsItemOf, IsSourceOf};
 
 use crate::holding::{HoldFault, read_whole};
@@ -14,6 +15,7 @@ use crate::stored::Stored;
 use crate::unfit::Unfit;
 use clap::ArgMatches;
 use iiif_command_line::LineFault;
+use iiif_image_list::{FolderImage, name_of};
 use iiif_open_files::{OpenFiles, Opens, PathSource, Texts};
 use iiif_source::{MemSource, OpenFile, Opened, ReadFault, Source};
 use iiif_tiff_read::{Layout, OpenFault, open};
@@ -35,6 +37,69 @@ where
         Ok(text) => Ok(text),
         Err(error) if error.kind() == ErrorKind::OutOfMemory => Err(LineFault::NoMemory),
         Err(_) => Err(LineFault::Unread),
+    }
+}
+
+/// A file of a folder as an image. None where its name is none of an image's.
+fn folder_image(
+    alloc: Global,
+    folder: &str,
+    file: &str,
+) -> Result<Option<FolderImage>, AllocError> {
+    let Some(name) = name_of(file) else {
+        return Ok(None);
+    };
+    let slash = if folder.ends_with('/') { "" } else { "/" };
+    Ok(Some(FolderImage {
+        name: String::from_str(alloc, name)?,
+        path: format!(in alloc; "{folder}{slash}{file}")?,
+    }))
+}
+
+/// The images of a folder's files, in the order of the files' names.
+fn folder_images(
+    alloc: Global,
+    folder: &str,
+    mut files: Vec<String>,
+) -> Result<Vec<FolderImage>, AllocError> {
+    files.sort()?;
+    let mut images = Vec::new(alloc);
+    for file in &files {
+        if let Some(image) = folder_image(alloc, folder, file.as_str())? {
+            images.push(image)?;
+        }
+    }
+    Ok(images)
+}
+
+/// The images of the folder, none where no folder is named. It is read now, and never again.
+pub fn read_folder<R>(
+    rt: &R,
+    alloc: Global,
+    matches: &ArgMatches<'_>,
+) -> Result<Vec<FolderImage>, LineFault>
+where
+    R: Texts,
+{
+    let Some(folder) = matches.get_str("folder") else {
+        return Ok(Vec::new(alloc));
+    };
+    let files = match rt.names(alloc, folder) {
+        Ok(files) => files,
+        Err(error) => return Err(unread_folder(&error)),
+    };
+    match folder_images(alloc, folder, files) {
+        Ok(images) => Ok(images),
+        Err(_) => Err(LineFault::NoMemory),
+    }
+}
+
+/// Why a folder names no images whose files' names can't be read.
+fn unread_folder(error: &Error) -> LineFault {
+    match error.kind() {
+        ErrorKind::OutOfMemory => LineFault::NoMemory,
+        ErrorKind::InvalidFilename => LineFault::FolderEncoding,
+        _ => LineFault::UnreadFolder,
     }
 }
 
@@ -234,32 +299,103 @@ where
     }
 }
 
+/// The images that the start opened: those that are served, and those that can't be.
+#[derive(Drop)]
+pub struct OpenedImages<'a, R: Opens + Wait> {
+    pub catalogue: Catalogue<R, Stored<R>>,
+    /// The names and files of the catalogue's images, in its order.
+    pub served: Vec<(&'a str, &'a str)>,
+    /// The names and files of those that can't be served, and why, in the order in which they were named.
+    pub unfit: Vec<((&'a str, &'a str), Unfit)>,
+}
+
+impl<'a, R: Opens + Wait> OpenedImages<'a, R> {
+    /// No image yet.
+    fn new(alloc: Global) -> OpenedImages<'a, R>
+        ensures catalogue { result.catalogue ≡ [] }
+        ensures served { result.served.items ≡ [] }
+        ensures unfit { result.unfit.items ≡ [] }
+    {
+        OpenedImages {
+            catalogue: Catalogue::new(alloc),
+            served: Vec::new(alloc),
+            unfit: Vec::new(alloc),
+        }
+    }
+}
+
+/// How images are opened: how many of their files stay open, up to how many bytes one is held in memory, and whether those that can't be
+/// served are left out.
+#[derive(Clone, Copy)]
+pub struct Opening {
+    pub open_files: NonZeroUsize,
+    pub hold: u64,
+    pub skip_unfit: bool,
+}
+
+/// Adds an image to a catalogue, under its name.
+fn add_image<'a, R>(
+    alloc: Global,
+    catalogue: &mut Catalogue<R, Stored<R>>,
+    name: &str,
+    source: Stored<R>,
+    layout: Layout,
+) -> Result<(), Stop<'a>>
+where
+    R: Opens + Wait,
+    requires in_file { FitsIn layout (length (bytes_of R.holds source)) }
+    requires accepted { keeps_of R.keeps source → refusal_of (bytes_of R.holds source) ≡ None }
+    requires shown { keeps_of R.keeps source → layout ≡ scheme (bytes_of R.holds source) }
+    ensures { OnOk result (catalogue.new ≡ catalogue.old ++ (record { name = name.now; source = source; layout = layout }) ∷ []) }
+{
+    let Ok(text) = String::from_str(alloc, name) else {
+        return Err(Stop::Memory);
+    };
+    match catalogue.add(text, source, layout) {
+        Ok(()) => Ok(()),
+        Err(_) => Err(Stop::Memory),
+    }
+}
+
 /// The images, opened in the order given. Where `hold` is above 0, each file of at most so many bytes is read once, held in memory, and
-/// closed; of the others so many stay open.
-#[tactic(auto, using(crate::proofs::Names::names_more, crate::proofs::Names::zip_more))]
-pub fn open_catalogue<'a, R>(
+/// closed; of the others so many stay open. Where one can't be served, none is, or it is left out, as is asked for; where none can be, the
+/// first of them is told.
+#[tactic(auto, using(crate::proofs::Names::both_more, crate::proofs::Names::zip_push, crate::proofs::Names::parts_left, crate::proofs::Names::parts_right, crate::proofs::Names::parts_some))]
+pub fn open_images<'a, R>(
     rt: &R,
     alloc: Global,
     images: &[(&'a str, &'a str)],
-    open_files: NonZeroUsize,
-    hold: u64,
-) -> Result<Catalogue<R, Stored<R>>, Stop<'a>>
+    opening: Opening,
+) -> Result<OpenedImages<'a, R>, Stop<'a>>
 where
     R: Opens + Wait,
-    ensures names { IfOk result (λ c. map (λ i. i.name) c ≡ map (λ i. i.0.now) images.now) }
-    ensures items { IfOk result (λ c. AllZip (IsItemOf R.holds R.keeps hold) images.now c) }
+    ensures names { IfOk result (λ o. map (λ i. i.name) o.catalogue ≡ map (λ i. i.0.now) o.served.items) }
+    ensures items { IfOk result (λ o. AllZip (IsItemOf R.holds R.keeps opening.hold) o.served.items o.catalogue) }
+    ensures each { IfOk result (λ o. Parts images.now o.served.items (map (λ u. u.0) o.unfit.items)) }
+    ensures all { opening.skip_unfit ≡ false → IfOk result (λ o. o.served.items ≡ images.now) }
+    ensures some { 0 < length images.now → IfOk result (λ o. 0 < length o.served.items) }
 {
-    let files = shelf(alloc, open_files)?;
-    let mut catalogue = Catalogue::new(alloc);
+    let files = shelf(alloc, opening.open_files)?;
+    let mut opened = OpenedImages::new(alloc);
     for image in images {
         let (name, path) = *image;
-        let (source, layout) = open_image(rt, alloc, &files, name, path, hold)?;
-        let Ok(text) = String::from_str(alloc, name) else {
-            return Err(Stop::Memory);
-        };
-        if catalogue.add(text, source, layout).is_err() {
-            return Err(Stop::Memory);
+        match open_image(rt, alloc, &files, name, path, opening.hold) {
+            Ok((source, layout)) => {
+                add_image(alloc, &mut opened.catalogue, name, source, layout)?;
+                if opened.served.push(*image).is_err() {
+                    return Err(Stop::Memory);
+                }
+            }
+            Err(Stop::Image(_, unfit)) if opening.skip_unfit => {
+                if opened.unfit.push((*image, unfit)).is_err() {
+                    return Err(Stop::Memory);
+                }
+            }
+            Err(stop) => return Err(stop),
         }
     }
-    Ok(catalogue)
+    match opened.unfit.first() {
+        Some((image, unfit)) if opened.served.is_empty() => Err(Stop::Image(image.0, *unfit)),
+        _ => Ok(opened),
+    }
 }

@@ -71,3 +71,11 @@ fn put_lines<W: Write>(
     writeln!(out, "image {name}: {number}")?;
     writeln!(out, "{remedy}")
 }
+
+/// Says of images why they can't be served, each in a line and a second one that says what to do. It needs no memory.
+pub fn report_unfit<W: Write>(out: &mut W, images: &[((&str, &str), Unfit)]) -> io::Result<()> {
+    for ((name, _), unfit) in images {
+        unfit.report(out, Word(name))?;
+    }
+    Ok(())
+}

@@ -5,8 +5,10 @@ ghost use Rattle.std.specs.List.{list_all};
 ghost use Rattle.iiif_advice.specs.Lines.{is_line_byte};
 ghost use Rattle.iiif_start.specs.Statuses.{status_of_words};
 
+use crate::name::Word;
 use crate::stop::report_end;
 use iiif_command_line::LineFault;
+use iiif_image_list::FolderImage;
 use std::io;
 use std::io::Write;
 
@@ -32,10 +34,16 @@ fn remedy(fault: LineFault) -> &'static str
         LineFault::MinRate => "--min-rate is a number of bytes a second, 0 to 1099511627776",
         LineFault::PerAddress => "--per-address is a number of connections, 0 to 64",
         LineFault::Image => {
-            "at least one NAME=FILE, here or in the file of --images, with a name of 1 to 1024 bytes that stands once"
+            "at least one NAME=FILE, here or in the file of --images, or a file of --folder, with a name of 1 to 1024 bytes that stands \
+             once"
         }
         LineFault::Unread => "the file of --images can't be read",
         LineFault::List(_) => "the file of --images has lines NAME=FILE",
+        LineFault::UnreadFolder => "the folder of --folder can't be read",
+        LineFault::FolderEncoding => { "a file of --folder has a name that isn't UTF-8: rename it" }
+        LineFault::Folder(_) => {
+            "an image of --folder has the name of another one: rename its file"
+        }
         LineFault::Peer => {
             "--peer is NAME=ADDR with a port at its end, at most 63 times; it and --name have names of 1 to 255 bytes that stand once"
         }
@@ -47,27 +55,73 @@ fn remedy(fault: LineFault) -> &'static str
     }
 }
 
-/// Says what is wrong with the words, and in a second line what to do. Where it is a line of the list of images, that is the
-/// second line; where the list can't be read, its file.
-fn say<E: Write>(err: &mut E, fault: LineFault, list: Option<&str>) -> io::Result<()> {
-    writeln!(err, "line: {fault}")?;
-    match (fault, list) {
-        (LineFault::List(line), _) => writeln!(err, "{line}"),
-        (LineFault::Unread, Some(file)) => writeln!(err, "{file} can't be read"),
-        _ => writeln!(err, "{}", remedy(fault)),
+/// What the list of images was read of: its file, the folder, and the images of this.
+#[derive(Clone, Copy)]
+pub struct Origins<'a> {
+    pub list: Option<&'a str>,
+    pub folder: Option<&'a str>,
+    pub images: &'a [FolderImage],
+}
+
+/// The first of some images of a folder that has a name.
+fn first_named<'a>(images: &'a [FolderImage], name: &str) -> Option<&'a FolderImage> {
+    images.iter().find(|image| image.name.as_str() == name)
+}
+
+/// Says of two files of a folder, or of one whose name stands elsewhere, that they come to one name.
+fn say_twice<E: Write>(
+    err: &mut E,
+    images: &[FolderImage],
+    image: &FolderImage,
+    place: usize,
+) -> io::Result<()> {
+    let (name, path) = (Word(image.name.as_str()), Word(image.path.as_str()));
+    let (before, _) = images.split_at(place.min(images.len()));
+    match first_named(before, image.name.as_str()) {
+        Some(other) => {
+            let other = Word(other.path.as_str());
+            writeln!(
+                err,
+                "{other} and {path} come to one name, {name}: rename one"
+            )
+        }
+        None => writeln!(
+            err,
+            "{path} comes to a name that the words or the list of --images have, {name}: rename one"
+        ),
     }
 }
 
-/// Says what is wrong with the words, where the list of images is in this file, and gives the program's status: 1 where memory
+/// Says what is wrong with the words, and in a second line what to do. Where it is a line of the list of images, that is the
+/// second line; where the list or the folder can't be read, its file; where a file of the folder comes to the name of another, both.
+fn say<E: Write>(err: &mut E, fault: LineFault, origins: &Origins<'_>) -> io::Result<()> {
+    writeln!(err, "line: {fault}")?;
+    match (fault, origins.list, origins.folder) {
+        (LineFault::List(line), _, _) => return writeln!(err, "{line}"),
+        (LineFault::Unread, Some(file), _) => return writeln!(err, "{file} can't be read"),
+        (LineFault::UnreadFolder, _, Some(folder)) => {
+            return writeln!(err, "{folder} can't be read");
+        }
+        (LineFault::Folder(at), _, _) => {
+            if let Some(image) = origins.images.get(at.place) {
+                return say_twice(err, origins.images, image, at.place);
+            }
+        }
+        _ => {}
+    }
+    writeln!(err, "{}", remedy(fault))
+}
+
+/// Says what is wrong with the words, where the list of images is of these origins, and gives the program's status: 1 where memory
 /// ran out, else 2.
-pub fn report_fault<E: Write>(err: &mut E, fault: LineFault, list: Option<&str>) -> u8
+pub fn report_fault<E: Write>(err: &mut E, fault: LineFault, origins: &Origins<'_>) -> u8
     ensures { result ≡ status_of_words fault }
 {
     match fault {
         LineFault::NoMemory => report_end(err, "run: memory", 1),
         _ => {
             // Where the words can't be written, the status says it.
-            let _ = say(err, fault, list);
+            let _ = say(err, fault, origins);
             2
         }
     }

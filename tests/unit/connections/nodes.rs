@@ -9,7 +9,7 @@ use iiif_connections::{Catalogue, Config, Link, Manner, Node, Nodes, Room, Times
 use iiif_keys::{PARTS, SumKey, System, TileKey};
 use iiif_open_files::Opens;
 use iiif_services::Listeners;
-use iiif_start::{Held, Stored, open_catalogue};
+use iiif_start::{Held, Images, Opening, Stored, open_images};
 use std::alloc::Global;
 use std::marker::Brand;
 use std::net::{Net, TcpListener, TcpStream};
@@ -68,7 +68,12 @@ pub(crate) fn watcher_of(alloc: Global, scene: &Scene<'_, '_>, held: Held) -> Op
         peers: &peers,
         ask: scene.times.ask,
     };
-    Watcher::new(alloc, scene.logs, held, &nodes).ok()
+    let images = Images {
+        served: scene.images.len() as u64,
+        unfit: 0,
+        held,
+    };
+    Watcher::new(alloc, scene.logs, images, &nodes).ok()
 }
 
 /// How much a group keeps.
@@ -230,8 +235,14 @@ where
     };
     let times = scene.times;
     let config = Config::new(alloc, BASE, scene.edge, limits, 64, 2).ok()?;
-    let open_files = NonZeroUsize::new(scene.open_files)?;
-    let catalogue = open_catalogue(rt, alloc, scene.images, open_files, scene.hold).ok()?;
+    let opening = Opening {
+        open_files: NonZeroUsize::new(scene.open_files)?,
+        hold: scene.hold,
+        skip_unfit: false,
+    };
+    let catalogue = open_images(rt, alloc, scene.images, opening)
+        .ok()?
+        .catalogue;
     let (tiles, sums) = (Blank::new(PARTS), Blank::new(PARTS));
     if scene.owner.is_none() {
         return serve_alone::<R, Brand>(rt, alloc, config, catalogue, tiles, sums, times, stage);

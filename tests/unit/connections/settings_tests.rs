@@ -1,7 +1,7 @@
 //! Settings that words leave out, the lines of a program that ends while it runs, and warnings of dot segments.
 
 use crate::fixtures::{is_same, is_same_text};
-use iiif_command_line::{Options, matches, options_in};
+use iiif_command_line::{Listed, Options, matches, options_in};
 use iiif_start::dot_segments::{has_dot_segment, is_dot_segment};
 use iiif_start::rooms::is_unfilled;
 use iiif_start::{Stop, warn, warn_of_room};
@@ -19,7 +19,8 @@ fn are_left_out(options: &Options<'_>) -> bool {
     let room = (options.cache_bytes, options.cache_entries.get());
     let bounds = is_same(&(room, options.open_files.get()), &((67_108_864, 4096), 256));
     let memory = is_same(&(options.hold, options.touch_bytes), &(0, 0));
-    let rest = is_same(&(options.upscale, options.name), &(false, "self"));
+    let flags = (options.upscale, options.skip_unfit);
+    let rest = is_same(&(flags, options.name), &((false, false), "self"));
     sides && shares && bounds && memory && rest
 }
 
@@ -36,7 +37,11 @@ fn settings_left_out_have_their_defaults(rt: HostRuntime) {
         assert!(rt; false, "{words:?}");
         return;
     };
-    match options_in(rt.alloc(), &found, BASE, Ok(b"")) {
+    let listed = Listed {
+        list: b"",
+        folder: &[],
+    };
+    match options_in(rt.alloc(), &found, BASE, Ok(listed)) {
         Ok(options) => assert!(rt; are_left_out(&options)),
         Err(fault) => assert!(rt; false, "{fault:?}"),
     }

@@ -1,7 +1,7 @@
 //! Images named by words and by the lines of texts.
 
 use crate::fixtures::{is_missing, is_same, is_unwanted, is_written};
-use iiif_image_list::{Fault, ImageList, ListFault};
+use iiif_image_list::{Fault, FolderFault, FolderImage, ImageList, ListFault, name_of};
 use std::alloc::Global;
 use std::process::Abort;
 
@@ -304,4 +304,57 @@ fn are_told_apart(alloc: Global) -> bool {
 #[test]
 fn twenty_thousand_names_are_told_apart(rt: HostRuntime) {
     assert!(rt; are_told_apart(rt.alloc()));
+}
+
+/// Files' names, and the images' names that they are, if any.
+static FILES: [(&str, Option<&str>); 12] = [
+    ("a.tif", Some("a")),
+    ("a.tiff", Some("a")),
+    ("a b.TIF", Some("a b")),
+    ("ä=.TIFF", Some("ä=")),
+    ("a.tif.tif", Some("a.tif")),
+    ("a..tif", Some("a.")),
+    ("a.Tif", None),
+    ("a.tif~", None),
+    ("atif", None),
+    ("a.jpg", None),
+    (".a.tif", None),
+    (".tif", None),
+];
+
+#[test]
+fn file_of_a_folder_names_an_image_without_its_ending(rt: HostRuntime) {
+    for (file, name) in FILES.iter().copied() {
+        assert!(rt; is_same(&name_of(file), &name), "{file}");
+    }
+}
+
+/// An image of a folder.
+fn folder_image(alloc: Global, name: &str, path: &str) -> Option<FolderImage> {
+    Some(FolderImage {
+        name: String::from_str(alloc, name).ok()?,
+        path: String::from_str(alloc, path).ok()?,
+    })
+}
+
+/// Whether of three images of a folder, the third of which has the first one's name, two are taken behind one that is there.
+fn two_are_taken(alloc: Global) -> Option<bool> {
+    let mut files = Vec::new(alloc);
+    files.push(folder_image(alloc, "b", "f/b.tif")?).ok()?;
+    files.push(folder_image(alloc, "c=d", "f/c=d.tif")?).ok()?;
+    files.push(folder_image(alloc, "b", "f/b.tiff")?).ok()?;
+    let mut list = ImageList::new(alloc);
+    list.add("a=:sample").ok()?;
+    let wanted = FolderFault {
+        place: 2,
+        fault: Fault::Twice,
+    };
+    let refused = is_same(&list.add_files(&files), &Err(wanted));
+    let images = [("a", ":sample"), ("b", "f/b.tif"), ("c=d", "f/c=d.tif")];
+    Some(refused && has_images(&list, &images))
+}
+
+#[test]
+fn folder_ends_at_a_file_whose_name_is_there(rt: HostRuntime) {
+    assert!(rt; two_are_taken(rt.alloc()) == Some(true));
 }

@@ -4,7 +4,7 @@ use crate::fixtures::{has_end, has_start, is_same, is_same_text, is_unwanted};
 use iiif_breaker::{Asks, Durations, State};
 use iiif_io::fakes::{FailingReader, FailingWriter};
 use iiif_metrics::{
-    CacheMetrics, Counts, HeldMetrics, LinkMetrics, Measure, Metrics, NoMemory, PeerMetrics,
+    CacheMetrics, Counts, HeldMetrics, ImageMetrics, LinkMetrics, Measure, Metrics, NoMemory, PeerMetrics,
     Service, Services, metrics_text, serve_metrics,
 };
 use iiif_tables::Book;
@@ -60,6 +60,10 @@ fn metrics() -> Metrics {
     Metrics {
         tiles: cache(100),
         sums: cache(200),
+        images: ImageMetrics {
+            served: 17,
+            unfit: 18,
+        },
         held: HeldMetrics {
             bytes: 13,
             images: 14,
@@ -127,7 +131,13 @@ iiif_tile_cache_gets_total 100
 ";
 
 /// The end of it.
-const END: &str = "# HELP iiif_held_bytes Bytes of the images' files that are held in memory.
+const END: &str = "# HELP iiif_images Images that are served.
+# TYPE iiif_images gauge
+iiif_images 17
+# HELP iiif_images_unfit Images that can't be served, and are left out.
+# TYPE iiif_images_unfit gauge
+iiif_images_unfit 18
+# HELP iiif_held_bytes Bytes of the images' files that are held in memory.
 # TYPE iiif_held_bytes gauge
 iiif_held_bytes 13
 # HELP iiif_held_images Images whose files are held in memory.
