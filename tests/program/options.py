@@ -78,6 +78,12 @@ def counter(text, name):
     return next(int(line.split()[1]) for line in text.splitlines() if line.startswith(name + " "))
 
 
+def cut(text):
+    """The answers that were cut off, by cause, but for causes of none."""
+    found = dict(re.findall(r'(?m)^iiif_answers_cut_total\{cause="(\w+)"\} (\d+)$', text))
+    return {cause: int(count) for cause, count in found.items() if count != "0"}
+
+
 def command(program, *words):
     """The command of a server, as one can paste it."""
     return [program, "--base", BASE, "--listen", "127.0.0.1:8080", *map(str, words)]
@@ -310,7 +316,7 @@ def a_reader_below_min_rate_is_cut_after_30_seconds(program, room):
         while time.monotonic() < ends:
             for name, link in links.items():
                 take(link, 2000)
-                if name not in cut_after and counter(page(servers[name][1], "/metrics")[1], "iiif_answers_cut_total"):
+                if name not in cut_after and cut(page(servers[name][1], "/metrics")[1]) == {"rate": 1}:
                     # What isn't cut soon behind the first isn't cut for its rate.
                     cut_after[name], ends = time.monotonic() - begun, min(ends, time.monotonic() + 8)
             time.sleep(0.1)
@@ -385,12 +391,6 @@ def log_writes_a_line_for_each_answer(program, room):
     return got, [True, ""], command(program, "--log", "a=:sample")
 
 
-@shows("--stats-listen")
-def stats_listen_answers_metrics_and_health(program, room):
-    statistics = free_port()
-    words = ["--stats-listen", f"127.0.0.1:{statistics}"]
-    with Server(program, ["a=:sample"], words) as server:
-        asked(server.port, SAMPLE_TARGET)
 @shows("--folder")
 def a_folder_is_read_at_the_start_alone(program, room):
     folder = f"{room}/folder_read_once"
@@ -420,6 +420,12 @@ def images_that_are_left_out_are_told_and_counted(program, room):
     return got, [[1, 1], [200, 404], "image bad: 4", "refused"], command(program, *words, "--skip-unfit")
 
 
+@shows("--stats-listen")
+def stats_listen_answers_metrics_and_health(program, room):
+    statistics = free_port()
+    words = ["--stats-listen", f"127.0.0.1:{statistics}"]
+    with Server(program, ["a=:sample"], words) as server:
+        asked(server.port, SAMPLE_TARGET)
         wait_until(lambda: 'iiif_answers_total{status="200"} 1\n' in page(statistics, "/metrics")[1])
         told = 'iiif_answers_total{status="200"} 1\n' in page(statistics, "/metrics")[1]
         got = [told, page(statistics, "/health"), asked(server.port, "/health")]

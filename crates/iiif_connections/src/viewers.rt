@@ -9,13 +9,13 @@ ghost use Rattle.iiif_start.specs.Stored.{bytes_of};
 use crate::connections::ends;
 use crate::passes::TakenPasses;
 use crate::times::Times;
-use crate::watcher::Watcher;
+use crate::watcher::{ConnectionWatch, Watcher};
 use iiif_io::{Inlet, Outlet};
 use iiif_keys::{SumKey, System, TileKey};
 use iiif_listener::{OpenConnections, Pace, PacedWriter, Visit, close};
 use iiif_metrics::Visitors;
 use iiif_open_files::Opens;
-use iiif_server::{Gate, Link, Node, Serving, SumCalls, TileCalls};
+use iiif_server::{Gate, Link, Node, Serving, SumCalls, TileCalls, Watch};
 use iiif_start::Stored;
 use std::alloc::Global;
 use std::sync::Wait;
@@ -79,7 +79,11 @@ where
         else {
             return false;
         };
-        if !self.serve_over(rt, alloc, reader, &mut out) {
+        let watch = ConnectionWatch {
+            watcher: self.watcher,
+            pace: &pace,
+        };
+        if !self.serve_over(rt, alloc, &watch, reader, &mut out) {
             return false;
         }
         let PacedWriter { stream, .. } = out;
@@ -87,13 +91,14 @@ where
         true
     }
 
-    /// Answers the calls of a connection in order, over any reader and writer. It says whether passes for its workers were there: where
-    /// they are missing, nothing is answered. Of a node that holds all its images in memory and asks no other, nothing is assumed in what
-    /// is said of its answers.
-    pub fn serve_over<I: Inlet + Drop, W: Outlet>(
+    /// Answers the calls of a connection in order, over any reader and writer, and tells a watch of each. It says whether passes for its
+    /// workers were there: where they are missing, nothing is answered. Of a node that holds all its images in memory and asks no other,
+    /// nothing is assumed in what is said of its answers.
+    pub fn serve_over<V: Watch<R>, I: Inlet + Drop, W: Outlet>(
         &self,
         rt: &R,
         alloc: Global,
+        watch: &V,
         reader: I,
         out: &mut W,
     ) -> bool
@@ -117,11 +122,7 @@ where
         let Some(mut passes) = TakenPasses::take(rt, alloc, self.node, self.workers) else {
             return false;
         };
-        let serving = Serving {
-            rt,
-            alloc,
-            watch: self.watcher,
-        };
+        let serving = Serving { rt, alloc, watch };
         self.node
             .serve_stream(&serving, passes.lend(), reader, out);
         passes.give_back(rt, self.node);

@@ -13,10 +13,12 @@ use Rattle.jiff_fmt.specs.Text.{places}
 use Rattle.jiff.specs.Names.{iso_datetime_text}
 use Rattle.iiif_log.specs.Escapes.{escaped}
 use Rattle.iiif_log.specs.Laws.{HasNumbers, LinesAreLines, LinesTellAnswers, last_words}
-use Rattle.iiif_log.specs.Lines.{cut_word, outcome_word, words_of}
+use Rattle.iiif_log.specs.Lines.{cause_word, cut_word, outcome_word, words_of}
 use Rattle.iiif_log.specs.Moments.{IsMomentText, three_digits}
 use Rattle.iiif_log.specs.PeerLines.{PeerLinesAreLines, PeerLinesTellTurns, peer_words, turn_word}
 use Rattle.iiif_log.specs.declared.answered.Answered.{Answered}
+use Rattle.iiif_log.specs.declared.answered.CutCause.{CutCause}
+use Rattle.iiif_log.specs.declared.answered.CutCause.TheVariants.{Viewer, Slow, Rate, Source, Memory}
 use Rattle.iiif_log.specs.declared.answered.Outcome.{Outcome}
 use Rattle.iiif_log.specs.declared.answered.Outcome.TheVariants.{Whole, Cut}
 use Rattle.iiif_log.specs.declared.peer.PeerTurn.{PeerTurn}
@@ -93,11 +95,26 @@ moment_seen millis text (dt, at, is) =
 
 outcome_seen : (o : Outcome) → ((s : ℕ) → o ≡ Whole s → s < 2 ^ 16) → Word (outcome_word o)
 outcome_seen (Whole s) small = let below = small s refl in decimal_seen s (omega arith)
-outcome_seen Cut small = dash_seen 45 (omega arith)
+outcome_seen (Cut c) small = dash_seen 45 (omega arith)
+
+-- these bytes are visible
+all_seen : (bs : List ℕ) → AllByRecursion (λ b. 32 < b) bs → Word bs
+all_seen [] v = none_seen
+all_seen (b ∷ bs) v = one_more b bs v.0 (all_seen bs v.1)
+
+cause_seen : (c : CutCause) → Word (cause_word c)
+cause_seen Viewer = all_seen (codes "viewer")
+    (omega arith, (omega arith, (omega arith, (omega arith, (omega arith, (omega arith, tt))))))
+cause_seen Slow = all_seen (codes "slow") (omega arith, (omega arith, (omega arith, (omega arith, tt))))
+cause_seen Rate = all_seen (codes "rate") (omega arith, (omega arith, (omega arith, (omega arith, tt))))
+cause_seen Source = all_seen (codes "source")
+    (omega arith, (omega arith, (omega arith, (omega arith, (omega arith, (omega arith, tt))))))
+cause_seen Memory = all_seen (codes "memory")
+    (omega arith, (omega arith, (omega arith, (omega arith, (omega arith, (omega arith, tt))))))
 
 last_seen : (o : Outcome) → AllByRecursion Word (last_words o)
 last_seen (Whole s) = tt
-last_seen Cut = (one_more 99 (117 ∷ 116 ∷ []) (omega arith) (one_more 117 (116 ∷ []) (omega arith) (dash_seen 116 (omega arith))), tt)
+last_seen (Cut c) = (all_seen (codes "cut") (omega arith, (omega arith, (omega arith, tt))), (cause_seen c, tt))
 
 escaped_word : (bs : List ℕ) → Word (escaped bs)
 escaped_word bs = record { seen = escaped_is_seen bs }
@@ -123,7 +140,7 @@ join_above w (x ∷ xs) v vs =
 front_of : (t m o b n g : List ℕ) (end : Outcome)
     → join_with_byte 32 (t ∷ m ∷ o ∷ b ∷ n ∷ g ∷ []) ++ cut_word end ≡ join_with_byte 32 (t ∷ m ∷ o ∷ b ∷ n ∷ g ∷ last_words end)
 front_of t m o b n g (Whole s) = append-nil (join_with_byte 32 (t ∷ m ∷ o ∷ b ∷ n ∷ g ∷ []))
-front_of t m o b n g Cut = simp append_assoc
+front_of t m o b n g (Cut c) = simp append_assoc
 
 words_behind_seen : (a : Answered) → HasNumbers a
     → AllByRecursion Word (escaped a.method.now ∷ outcome_word a.outcome ∷ decimal a.bytes ∷ decimal a.millis ∷ escaped a.target.now ∷
@@ -152,14 +169,39 @@ lines_are_lines a text h (time, moment, is) =
       split_join time rest word behind,
     )
 
+-- the cause of a word, by its first two bytes
+cause_of : List ℕ → CutCause
+cause_of [] = Viewer
+cause_of (a ∷ []) = Viewer
+cause_of (a ∷ b ∷ rest) =
+    if a == 118 then Viewer else (
+    if a == 114 then Rate else (
+    if a == 109 then Memory else (
+    if b == 108 then Slow else Source)))
+
+cause_back : (c : CutCause) → cause_of (cause_word c) ≡ c
+cause_back Viewer = refl
+cause_back Slow = refl
+cause_back Rate = refl
+cause_back Source = refl
+cause_back Memory = refl
+
+causes_differ : (c d : CutCause) → cause_word c ≡ cause_word d → c ≡ d
+causes_differ c d e = sym (cause_back c) ∙ (ap cause_of e ∙ cause_back d)
+
+abbrev second_of : List (List ℕ) → List ℕ
+second_of [] = []
+second_of (a ∷ []) = []
+second_of (a ∷ b ∷ rest) = b
+
 ends_differ : (o p : Outcome) → ((s : ℕ) → o ≡ Whole s → s < 2 ^ 16) → ((s : ℕ) → p ≡ Whole s → s < 2 ^ 16)
     → outcome_word o ≡ outcome_word p → last_words o ≡ last_words p → o ≡ p
 ends_differ (Whole s) (Whole t) small little e last =
     let below = small s refl in let under = little t refl in
     ap Whole (decimal_injective s t (omega arith) (omega arith) e)
-ends_differ (Whole s) Cut small little e last = cc
-ends_differ Cut (Whole t) small little e last = cc
-ends_differ Cut Cut small little e last = refl
+ends_differ (Whole s) (Cut d) small little e last = cc
+ends_differ (Cut c) (Whole t) small little e last = cc
+ends_differ (Cut c) (Cut d) small little e last = ap Cut (causes_differ c d (ap second_of last))
 
 pub lines_tell_answers : LinesTellAnswers
 lines_tell_answers a b text h k am bm at bt x y =
@@ -180,11 +222,6 @@ lines_tell_answers a b text h k am bm at bt x y =
       decimal_injective a.bytes b.bytes h.bytes k.bytes bytes,
       decimal_injective a.millis b.millis h.millis k.millis times,
     )
-
--- these bytes are visible
-all_seen : (bs : List ℕ) → AllByRecursion (λ b. 32 < b) bs → Word bs
-all_seen [] v = none_seen
-all_seen (b ∷ bs) v = one_more b bs v.0 (all_seen bs v.1)
 
 peer_seen : Word (codes "peer")
 peer_seen = all_seen (codes "peer") (omega arith, (omega arith, (omega arith, (omega arith, tt))))

@@ -2,7 +2,7 @@
 use Rattle.std.specs.Prelude.{◌≡◌, ℕ, ◌+◌, ◌^◌, ◌<◌, ◌==◌, List, [], ◌∷◌, ◌++◌, All, codes, length}
 use Rattle.std.specs.List.{slice_split, sum_by}
 use Rattle.iiif_log.specs.Escapes.{escaped}
-use Rattle.iiif_log.specs.Lines.{IsLineOf, words_of}
+use Rattle.iiif_log.specs.Lines.{IsLineOf, cause_word, words_of}
 use Rattle.iiif_log.specs.Moments.{IsMomentText}
 use Rattle.iiif_log.specs.Waiting.{Told, Waiting, line, left_behind, lines_in, put_behind, told_next}
 use Rattle.iiif_log.specs.declared.answered.Answered.{Answered}
@@ -13,10 +13,10 @@ use Rattle.iiif_log.specs.declared.answered.Outcome.TheVariants.{Whole, Cut}
 abbrev pub EscapesDiffer : Type 0
 EscapesDiffer = (a b : List ℕ) → All (λ x. x < 256) a → All (λ x. x < 256) b → escaped a ≡ escaped b → a ≡ b
 
--- the word behind the target of an answer that was cut off
+-- the words behind the target of an answer that was cut off
 abbrev pub last_words : Outcome → List (List ℕ)
 last_words (Whole status) = []
-last_words Cut = codes "cut" ∷ []
+last_words (Cut cause) = codes "cut" ∷ cause_word cause ∷ []
 
 -- the numbers of an answer are those of its type
 pub record HasNumbers (a : Answered) : Type 0 where

@@ -4,18 +4,28 @@ use Rattle.std.specs.List.{join_with_byte}
 use Rattle.iiif_log.specs.Escapes.{escaped}
 use Rattle.iiif_log.specs.Moments.{IsMomentText}
 use Rattle.iiif_log.specs.declared.answered.Answered.{Answered}
+use Rattle.iiif_log.specs.declared.answered.CutCause.{CutCause}
+use Rattle.iiif_log.specs.declared.answered.CutCause.TheVariants.{Viewer, Slow, Rate, Source, Memory}
 use Rattle.iiif_log.specs.declared.answered.Outcome.{Outcome}
 use Rattle.iiif_log.specs.declared.answered.Outcome.TheVariants.{Whole, Cut}
 
 -- the status, or that there is none to tell
 abbrev pub outcome_word : Outcome → List ℕ
 outcome_word (Whole status) = decimal status
-outcome_word Cut = codes "-"
+outcome_word (Cut cause) = codes "-"
 
--- what stands behind the target of an answer that was cut off
+-- the word for a cause
+abbrev pub cause_word : CutCause → List ℕ
+cause_word Viewer = codes "viewer"
+cause_word Slow = codes "slow"
+cause_word Rate = codes "rate"
+cause_word Source = codes "source"
+cause_word Memory = codes "memory"
+
+-- what stands behind the target of an answer that was cut off: that it was, and why
 abbrev pub cut_word : Outcome → List ℕ
 cut_word (Whole status) = []
-cut_word Cut = codes " cut"
+cut_word (Cut cause) = codes " cut " ++ cause_word cause
 
 -- The words of a line at this time: when, the method, the status, the bytes, the milliseconds, the target.
 abbrev pub words_of : List ℕ → Answered → List (List ℕ)

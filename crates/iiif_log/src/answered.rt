@@ -2,13 +2,28 @@
 
 use crate::moment::Moment;
 
+/// Why an answer was cut off.
+#[derive(Clone, Copy, Debug, PartialEq, Eq)]
+pub enum CutCause {
+    /// Who read it closed or reset the connection.
+    Viewer,
+    /// Nothing of it was taken for as long as is waited.
+    Slow,
+    /// It was taken below the least rate.
+    Rate,
+    /// A read of the image's file failed.
+    Source,
+    /// Memory was refused.
+    Memory,
+}
+
 /// How an answer ended.
 #[derive(Clone, Copy, PartialEq, Eq)]
 pub enum Outcome {
     /// It was sent whole, with this status of HTTP.
     Whole(u16),
-    /// It was cut off.
-    Cut,
+    /// It was cut off, for this cause.
+    Cut(CutCause),
 }
 
 /// An answer, as its line tells it.

@@ -1,9 +1,9 @@
 //! The line of an answer.
 
 ghost use Rattle.std.specs.Prelude.{◌≡◌, ◌++◌, ◌∷◌, [], IfOk, OnOk, string_bytes};
-ghost use Rattle.iiif_log.specs.Lines.{IsLineOf, outcome_word, cut_word, lost_line};
+ghost use Rattle.iiif_log.specs.Lines.{IsLineOf, cause_word, outcome_word, cut_word, lost_line};
 
-use crate::answered::{Answered, Outcome};
+use crate::answered::{Answered, CutCause, Outcome};
 use crate::escape::push_escaped;
 use crate::moment::{NoMemory, push_moment};
 use std::alloc::Global;
@@ -18,23 +18,39 @@ fn push_outcome(text: &mut String, outcome: Outcome) -> Result<(), NoMemory>
 {
     match outcome {
         Outcome::Whole(status) => write!(text, "{status}"),
-        Outcome::Cut => text.push_str("-"),
+        Outcome::Cut(_) => text.push_str("-"),
     }
 }
 
-/// Writes that an answer was cut off, where it was, and the line's end.
+/// The word for a cause.
+fn cause_text(cause: CutCause) -> &'static str
+    ensures { result.now ≡ cause_word cause }
+{
+    match cause {
+        CutCause::Viewer => "viewer",
+        CutCause::Slow => "slow",
+        CutCause::Rate => "rate",
+        CutCause::Source => "source",
+        CutCause::Memory => "memory",
+    }
+}
+
+/// Writes that an answer was cut off and why, where it was, and the line's end.
 fn push_end(text: &mut String, outcome: Outcome) -> Result<(), NoMemory>
     ensures { OnOk result (string_bytes text.new ≡ string_bytes text.old ++ (cut_word outcome ++ 10 ∷ [])) }
 {
     match outcome {
         Outcome::Whole(_) => text.push_str("\n"),
-        Outcome::Cut => text.push_str(" cut\n"),
+        Outcome::Cut(cause) => {
+            let word = cause_text(cause);
+            write!(text, " cut {word}\n")
+        }
     }
 }
 
 /// The line of an answer, as `2026-11-23T11:42:05.123Z GET 200 65536 12 /iiif/a/full/max/0/default.tif`: when it was done with, the
-/// method, the status, the bytes that were written, the milliseconds that it took, the target; and `cut` where it was cut off, with
-/// `-` in the place of the status.
+/// method, the status, the bytes that were written, the milliseconds that it took, the target; and `cut` and the cause where it was cut
+/// off, with `-` in the place of the status.
 pub fn line_bytes(alloc: Global, answered: &Answered<'_>) -> Result<Vec<u8>, NoMemory>
     ensures { IfOk result (λ bytes. IsLineOf answered.now bytes.items) }
 {

@@ -2,6 +2,8 @@
 use Rattle.std.specs.Prelude.{ℕ, ◌+◌, ◌-◌, ◌==◌, [], ◌∷◌, if◌then◌else◌, slice_index, slice_set}
 use Rattle.iiif_io.specs.Counting.{capped}
 use Rattle.iiif_metrics.specs.declared.counts.Counts.{Counts}
+use Rattle.iiif_log.specs.declared.answered.CutCause.{CutCause}
+use Rattle.iiif_log.specs.declared.answered.CutCause.TheVariants.{Viewer, Slow, Rate, Source, Memory}
 use Rattle.iiif_metrics.specs.declared.counts.Visitors.{Visitors}
 use Rattle.iiif_metrics.specs.declared.counts.Visitors.TheVariants.{Viewers, Peers, Statistics}
 
@@ -13,7 +15,13 @@ place_of s =
 
 -- nothing yet
 abbrev pub no_counts : Counts
-no_counts = record { whole = 0 ∷ 0 ∷ 0 ∷ 0 ∷ 0 ∷ 0 ∷ 0 ∷ 0 ∷ []; cut = 0; bytes = 0; open_now = 0 ∷ 0 ∷ 0 ∷ []; refused = 0 ∷ 0 ∷ 0 ∷ [] }
+no_counts = record {
+  whole = 0 ∷ 0 ∷ 0 ∷ 0 ∷ 0 ∷ 0 ∷ 0 ∷ 0 ∷ [];
+  cut = 0 ∷ 0 ∷ 0 ∷ 0 ∷ 0 ∷ [];
+  bytes = 0;
+  open_now = 0 ∷ 0 ∷ 0 ∷ [];
+  refused = 0 ∷ 0 ∷ 0 ∷ [];
+}
 
 -- one more whole answer of a status, of so many bytes
 abbrev pub with_answer : ℕ → ℕ → Counts → Counts
@@ -22,9 +30,20 @@ with_answer status bytes c = record c {
   bytes = capped (c.bytes + bytes);
 }
 
--- one more answer that was cut off behind so many bytes
-abbrev pub with_cut : ℕ → Counts → Counts
-with_cut bytes c = record c { cut = capped (c.cut + 1); bytes = capped (c.bytes + bytes) }
+-- the place of a cause among the counts
+abbrev pub cause_place : CutCause → ℕ
+cause_place Viewer = 0
+cause_place Slow = 1
+cause_place Rate = 2
+cause_place Source = 3
+cause_place Memory = 4
+
+-- one more answer that was cut off for a cause behind so many bytes
+abbrev pub with_cut : CutCause → ℕ → Counts → Counts
+with_cut cause bytes c = record c {
+  cut = slice_set c.cut (cause_place cause) (capped (slice_index c.cut (cause_place cause) + 1));
+  bytes = capped (c.bytes + bytes);
+}
 
 -- the place of these visitors' connections among the counts
 abbrev pub listener_place : Visitors → ℕ

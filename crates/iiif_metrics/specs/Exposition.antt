@@ -106,9 +106,27 @@ refused_family counts =
 -- what was counted of answers, whatever their status, under names with this front
 abbrev pub server_families : List ℕ → Counts → List Family
 server_families front c =
-    single (front ++ codes "answers_cut_total") (codes "Answers that were cut off.") Counter c.cut
-    ∷ single (front ++ codes "answer_bytes_total") (codes "Bytes of answers and their heads.") Counter c.bytes
+    single (front ++ codes "answer_bytes_total") (codes "Bytes of answers and their heads.") Counter c.bytes
     ∷ []
+
+-- the answers that were cut off, by cause
+abbrev pub cut_samples : List ℕ → List (List ℕ × ℕ)
+cut_samples cut =
+    (codes "{cause=\"viewer\"}", slice_index cut 0)
+    ∷ (codes "{cause=\"slow\"}", slice_index cut 1)
+    ∷ (codes "{cause=\"rate\"}", slice_index cut 2)
+    ∷ (codes "{cause=\"source\"}", slice_index cut 3)
+    ∷ (codes "{cause=\"memory\"}", slice_index cut 4)
+    ∷ []
+
+abbrev pub cut_family : List ℕ → Family
+cut_family cut = record {
+  name = codes "iiif_answers_cut_total";
+  help = codes "Answers that were cut off.";
+  kind = Counter;
+  samples =
+      cut_samples cut;
+}
 
 -- the answers that were sent whole, by status
 abbrev pub status_samples : List ℕ → List (List ℕ × ℕ)

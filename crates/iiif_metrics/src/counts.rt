@@ -2,9 +2,10 @@
 
 ghost use Rattle.std.specs.Prelude.{◌≡◌, ◌+◌, ◌-◌};
 ghost use Rattle.iiif_io.specs.Counting.{capped};
-ghost use Rattle.iiif_metrics.specs.Counting.{no_counts, place_of, listener_place, with_answer, with_closed, with_cut, with_opened};
+ghost use Rattle.iiif_metrics.specs.Counting.{cause_place, no_counts, place_of, listener_place, with_answer, with_closed, with_cut, with_opened};
 ghost use Rattle.iiif_metrics.specs.Counting.{with_refused};
 
+use iiif_log::CutCause;
 use std::sync::{Mutex, Wait};
 
 /// The statuses that are counted each by itself. All others are counted together.
@@ -25,8 +26,8 @@ pub enum Visitors {
 pub struct Counts {
     /// The answers that were sent whole, by status, in the order of [`STATUSES`], and those of any other status last.
     pub whole: [u64; 8],
-    /// The answers that were cut off.
-    pub cut: u64,
+    /// The answers that were cut off, by cause, in the order of [`CutCause`].
+    pub cut: [u64; 5],
     /// The bytes of all answers.
     pub bytes: u64,
     /// The connections that are open, by whose they are, in the order of [`Visitors`].
@@ -62,6 +63,19 @@ fn listener_place(visitors: Visitors) -> usize
     }
 }
 
+/// The place of a cause among the counts.
+fn cause_place(cause: CutCause) -> usize
+    ensures { result ≡ cause_place cause }
+{
+    match cause {
+        CutCause::Viewer => 0,
+        CutCause::Slow => 1,
+        CutCause::Rate => 2,
+        CutCause::Source => 3,
+        CutCause::Memory => 4,
+    }
+}
+
 impl Counts {
     /// Nothing yet.
     pub fn new() -> Counts
@@ -69,7 +83,7 @@ impl Counts {
     {
         Counts {
             whole: [0; 8],
-            cut: 0,
+            cut: [0; 5],
             bytes: 0,
             open_now: [0; 3],
             refused: [0; 3],
@@ -85,11 +99,12 @@ impl Counts {
         self.bytes = self.bytes.saturating_add(bytes);
     }
 
-    /// An answer was cut off behind so many bytes.
-    pub fn count_cut(&mut self, bytes: u64)
-        ensures { self.new ≡ with_cut bytes self.old }
+    /// An answer was cut off for a cause behind so many bytes.
+    pub fn count_cut(&mut self, cause: CutCause, bytes: u64)
+        ensures { self.new ≡ with_cut cause bytes self.old }
     {
-        self.cut = self.cut.saturating_add(1);
+        let place = cause_place(cause);
+        self.cut[place] = self.cut[place].saturating_add(1);
         self.bytes = self.bytes.saturating_add(bytes);
     }
 
@@ -138,8 +153,8 @@ impl Tally {
     }
 
     /// An answer was cut off.
-    pub fn count_cut<R: Wait>(&self, rt: &R, bytes: u64) {
-        self.counts.lock(rt).count_cut(bytes);
+    pub fn count_cut<R: Wait>(&self, rt: &R, cause: CutCause, bytes: u64) {
+        self.counts.lock(rt).count_cut(cause, bytes);
     }
 
     /// A connection was opened.

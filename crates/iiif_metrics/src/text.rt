@@ -2,8 +2,8 @@
 
 ghost use Rattle.std.specs.Prelude.{◌≡◌, ◌++◌, ℕ, List, IfOk, OnOk, map, string_bytes};
 ghost use Rattle.std.specs.List.{flat_map};
-ghost use Rattle.iiif_metrics.specs.Exposition.{answer_family, cache_families, family_of, family_text, families_text, held_families};
-ghost use Rattle.iiif_metrics.specs.Exposition.{image_families};
+ghost use Rattle.iiif_metrics.specs.Exposition.{answer_family, cache_families, cut_family, cut_samples, family_of, family_text};
+ghost use Rattle.iiif_metrics.specs.Exposition.{families_text, held_families, image_families};
 ghost use Rattle.iiif_metrics.specs.Exposition.{help_line, kind_word, listener_samples, open_family, refused_family, row_family};
 ghost use Rattle.iiif_metrics.specs.Exposition.{sample_line, sample_view, server_families, single, status_samples, type_line};
 ghost use Rattle.iiif_metrics.specs.Page.{text_of};
@@ -212,21 +212,14 @@ fn image_rows(images: &ImageMetrics) -> [Row<'static>; 2]
 }
 
 /// What was counted of answers, whatever their status.
-fn server_rows(counts: &Counts) -> [Row<'static>; 2]
+fn server_rows(counts: &Counts) -> [Row<'static>; 1]
     ensures { (front : List ℕ) → map (row_family front) result ≡ server_families front counts.now }
 {
-    [
-        counter(
-            "answers_cut_total",
-            "Answers that were cut off.",
-            counts.cut,
-        ),
-        counter(
-            "answer_bytes_total",
-            "Bytes of answers and their heads.",
-            counts.bytes,
-        ),
-    ]
+    [counter(
+        "answer_bytes_total",
+        "Bytes of answers and their heads.",
+        counts.bytes,
+    )]
 }
 
 /// Writes the lines of samples of one family.
@@ -265,6 +258,19 @@ fn status_samples_in(whole: &[u64; 8]) -> [Sample<'static>; 8]
         sample_of("{status=\"500\"}", whole[5]),
         sample_of("{status=\"501\"}", whole[6]),
         sample_of("{status=\"other\"}", whole[7]),
+    ]
+}
+
+/// The answers that were cut off for each cause.
+fn cut_samples_in(cut: &[u64; 5]) -> [Sample<'static>; 5]
+    ensures { map sample_view result ≡ cut_samples cut.now }
+{
+    [
+        sample_of("{cause=\"viewer\"}", cut[0]),
+        sample_of("{cause=\"slow\"}", cut[1]),
+        sample_of("{cause=\"rate\"}", cut[2]),
+        sample_of("{cause=\"source\"}", cut[3]),
+        sample_of("{cause=\"memory\"}", cut[4]),
     ]
 }
 
@@ -321,6 +327,19 @@ fn push_refused(text: &mut String, refused: &[u64; 3]) -> Result<(), NoMemory>
     )
 }
 
+/// Writes the answers that were cut off, by cause.
+fn push_cut(text: &mut String, cut: &[u64; 5]) -> Result<(), NoMemory>
+    ensures { OnOk result (string_bytes text.new ≡ string_bytes text.old ++ family_text (cut_family cut.now)) }
+{
+    push_family(
+        text,
+        "iiif_answers_cut_total",
+        "Answers that were cut off.",
+        MetricKind::Counter,
+        &cut_samples_in(cut),
+    )
+}
+
 /// Writes the answers by status.
 fn push_answers(text: &mut String, whole: &[u64; 8]) -> Result<(), NoMemory>
     ensures { OnOk result (string_bytes text.new ≡ string_bytes text.old ++ family_text (answer_family whole.now)) }
@@ -349,6 +368,7 @@ pub fn metrics_text(
     push_rows(&mut text, "iiif_held_", &held_rows(&metrics.held))?;
     push_open(&mut text, &metrics.counts.open_now)?;
     push_refused(&mut text, &metrics.counts.refused)?;
+    push_cut(&mut text, &metrics.counts.cut)?;
     push_rows(&mut text, "iiif_", &server_rows(&metrics.counts))?;
     push_answers(&mut text, &metrics.counts.whole)?;
     push_seconds(&mut text, &peers.durations)?;

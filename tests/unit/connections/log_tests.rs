@@ -5,16 +5,19 @@ use crate::connections::pipe::{Pipe, given_to, new_pipe, read_from_now, wait_for
 use crate::connections::viewers::{Sends, Text, connected, is_answered, is_redirected};
 use crate::connections::visits::{ANY, HELD, Visit, logged};
 use crate::fixtures::{has_end, is_same, is_unwanted};
-use iiif_connections::{Cause, Cut, Nodes, Sent, Watch, Watcher};
+use iiif_connections::{Cause, ConnectionWatch, Cut, Nodes, Sent, Watch, Watcher};
 use iiif_http_front::{Call, Method};
+use iiif_listener::Pace;
+use iiif_keys::Fault;
 use iiif_log::write_lines;
+use iiif_start::Images;
 use std::alloc::Global;
 use std::io::Write;
 use std::net::{TcpListener, TcpStream};
 use std::str;
 use std::sync::Wait;
 use std::test::Fail;
-use std::time::Clock;
+use std::time::{Clock, Duration};
 
 /// The sample, by a node that logs.
 const LOGGED: Scene<'static, 'static> = Scene {
@@ -97,10 +100,20 @@ fn log_of<R: Wait + Clock>(
         peers: &[],
         ask: 1_000,
     };
-    let watcher = Watcher::new(alloc, true, HELD, &nodes)?;
+    let images = Images {
+        served: 1,
+        unfit: 0,
+        held: HELD,
+    };
+    let watcher = Watcher::new(alloc, true, images, &nodes)?;
+    let pace = Pace::new(rt, Duration::from_millis(1_000))?;
+    let watch = ConnectionWatch {
+        watcher: &watcher,
+        pace: &pace,
+    };
     let call = call_of(alloc, target)?;
     for outcome in outcomes {
-        Watch::<R>::report(&watcher, rt, None, Some(&call), outcome);
+        Watch::<R>::report(&watch, rt, None, Some(&call), outcome);
     }
     let mut written = Vec::new(alloc);
     if let Some(log) = &watcher.log {
@@ -121,8 +134,8 @@ fn behind_moments(alloc: Global, log: &[u8]) -> Result<String, Fail> {
     Ok(lines)
 }
 
-/// Two answers, the second of which was cut off.
-const WHOLE_AND_CUT: [Result<Sent, Cut>; 2] = [
+/// Three answers, of which the second was cut off by its viewer and the third for want of memory.
+const WHOLE_AND_CUT: [Result<Sent, Cut>; 3] = [
     Ok(Sent {
         status: 200,
         bytes: 3,
@@ -132,13 +145,18 @@ const WHOLE_AND_CUT: [Result<Sent, Cut>; 2] = [
         sent: 5,
         cause: Cause::Writer,
     }),
+    Err(Cut {
+        sent: 6,
+        cause: Cause::Load(Fault::NoMemory),
+    }),
 ];
 
 #[test]
 fn odd_bytes_are_escaped_and_cuts_are_told(rt: HostRuntime) -> Result<(), Fail> {
     let log = log_of(&rt, rt.alloc(), b"/a\nb \"\xff", &WHOLE_AND_CUT)?;
     let lines = behind_moments(rt.alloc(), &log)?;
-    let wanted = "GET 200 3 0 /a\\x0Ab\\x20\\x22\\xFF\nGET - 5 0 /a\\x0Ab\\x20\\x22\\xFF cut\n";
+    let wanted = "GET 200 3 0 /a\\x0Ab\\x20\\x22\\xFF\nGET - 5 0 /a\\x0Ab\\x20\\x22\\xFF cut viewer\n\
+        GET - 6 0 /a\\x0Ab\\x20\\x22\\xFF cut memory\n";
     assert!(rt; is_same(&lines.as_str(), &wanted), "{lines}");
     Ok(())
 }

@@ -1,11 +1,12 @@
 //! Counts.
 
 use crate::fixtures::is_same;
+use iiif_log::CutCause;
 use iiif_metrics::{Counts, Tally, Visitors};
 use std::sync::Wait;
 
 /// The counts once two viewers' connections were opened and one closed, one of another node's and two of others were refused, and three
-/// answers were sent and one cut off.
+/// answers were sent and three cut off, two of them for one cause.
 fn counted<R: Wait>(rt: &R) -> Counts {
     let tally = Tally::new();
     tally.count_opened(rt, Visitors::Viewers);
@@ -16,7 +17,9 @@ fn counted<R: Wait>(rt: &R) -> Counts {
     tally.count_answer(rt, 200, 1000);
     tally.count_answer(rt, 501, 10);
     tally.count_answer(rt, 418, 1);
-    tally.count_cut(rt, 100);
+    tally.count_cut(rt, CutCause::Rate, 100);
+    tally.count_cut(rt, CutCause::Memory, 20);
+    tally.count_cut(rt, CutCause::Rate, 3);
     tally.count_closed(rt, Visitors::Viewers);
     tally.counts(rt)
 }
@@ -25,8 +28,8 @@ fn counted<R: Wait>(rt: &R) -> Counts {
 fn answers_and_connections_are_counted(rt: HostRuntime) {
     let wanted = Counts {
         whole: [1, 0, 0, 0, 0, 0, 1, 1],
-        cut: 1,
-        bytes: 1111,
+        cut: [0, 0, 2, 0, 1],
+        bytes: 1134,
         open_now: [1, 0, 0],
         refused: [0, 1, 2],
     };

@@ -1,7 +1,7 @@
 //! Lines of answers. The instants were taken from `date -u -d @SECONDS +%FT%T`.
 
 use crate::fixtures::{is_same_text, is_unwanted};
-use iiif_log::{Answered, Moment, Outcome, line_bytes, lost_line_bytes};
+use iiif_log::{Answered, CutCause, Moment, Outcome, line_bytes, lost_line_bytes};
 use std::alloc::Global;
 
 /// An answer by its instant in milliseconds, method, target, outcome, bytes and milliseconds, and its line.
@@ -50,10 +50,10 @@ static CUT: Row = Row {
     at: 951_782_399_007,
     method: b"GET",
     target: b"/a\n GET \"'\\x0A\x7f\xc3\xa9",
-    outcome: Outcome::Cut,
+    outcome: Outcome::Cut(CutCause::Source),
     bytes: 0,
     millis: 18_446_744_073_709_551_615,
-    line: b"2000-02-28T23:59:59.007Z GET - 0 18446744073709551615 /a\\x0A\\x20GET\\x20\\x22\\x27\\x5Cx0A\\x7F\\xC3\\xA9 cut\n",
+    line: b"2000-02-28T23:59:59.007Z GET - 0 18446744073709551615 /a\\x0A\\x20GET\\x20\\x22\\x27\\x5Cx0A\\x7F\\xC3\\xA9 cut source\n",
 };
 
 #[test]

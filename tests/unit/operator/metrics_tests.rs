@@ -70,7 +70,7 @@ fn metrics() -> Metrics {
         },
         counts: Counts {
             whole: [1, 2, 3, 4, 5, 6, 7, 8],
-            cut: 9,
+            cut: [41, 42, 43, 44, 45],
             bytes: 10,
             open_now: [11, 12, 13],
             refused: [14, 15, 16],
@@ -155,7 +155,11 @@ iiif_connections_refused_total{listener=\"peers\"} 15
 iiif_connections_refused_total{listener=\"statistics\"} 16
 # HELP iiif_answers_cut_total Answers that were cut off.
 # TYPE iiif_answers_cut_total counter
-iiif_answers_cut_total 9
+iiif_answers_cut_total{cause=\"viewer\"} 41
+iiif_answers_cut_total{cause=\"slow\"} 42
+iiif_answers_cut_total{cause=\"rate\"} 43
+iiif_answers_cut_total{cause=\"source\"} 44
+iiif_answers_cut_total{cause=\"memory\"} 45
 # HELP iiif_answer_bytes_total Bytes of answers and their heads.
 # TYPE iiif_answer_bytes_total counter
 iiif_answer_bytes_total 10
