@@ -1,5 +1,5 @@
 -- What is made of what is asked for: words of private functions.
-use Rattle.std.specs.Prelude.{◌≡◌, ◌+◌, ◌≤◌, IfErr, IfOk, IsTrue, List, OnErr, OnOk, Result, length}
+use Rattle.std.specs.Prelude.{◌≡◌, ℕ, ◌+◌, ◌-◌, ◌*◌, ◌^◌, ◌≤◌, IfErr, IfOk, IsTrue, List, OnErr, OnOk, Result, length}
 use Rattle.std.specs.Arc.{arc_value}
 use Rattle.std.specs.Result.{ForErr, ForOk}
 use Rattle.std.specs.declared.alloc.Global.{Global}
@@ -12,6 +12,7 @@ use Rattle.iiif_keys.specs.declared.system.System as system
 use Rattle.iiif_keys.specs.declared.values.SumVal.{SumVal}
 use Rattle.iiif_outcome.specs.Outcomes.{is_given}
 use Rattle.iiif_outcome.specs.declared.receipt.Receipt.{Receipt}
+use Rattle.iiif_sum_group.specs.Below.{blocks_below, AsksBelow, AsksFor, AsksParts}
 use Rattle.iiif_sum_group.specs.Outcomes.{KnowsSums}
 use Rattle.iiif_group.specs.declared.passes.Passes.{Passes}
 use Rattle.iiif_sum_group.specs.declared.make_error.MakeError.{MakeError}
@@ -35,12 +36,20 @@ module _ {J : Type 0} where
   abbrev pub HasAsManyParts : Passes J → Passes J → Type 0
   HasAsManyParts old new = (new.tile.parts ≡ old.tile.parts) × (new.sum.parts ≡ old.sum.parts)
 
+module _ {J : Type 0} (level count : ℕ) (old new : Passes J) where
+  -- No more was asked for than so many parts of a block of this level, and what lies in these.
+  pub record AsksSoMany : Type 0 where
+    pub sums : new.sum.gets ≤ old.sum.gets + count * (2 * (1 + blocks_below (level - 1)))
+    pub tiles : new.tile.gets ≤ old.tile.gets + count * (2 * 4 ^ (level - 1))
+
 module _ {J : Type 0} (node : system.Ghosts J) (key : SumKey) (old new : Passes J) where
   -- The value of the key, for one caller; or why not. What it is made of is counted as it was asked for.
   pub record MakesOne (result : Result SumVal Fault) : Type 0 where
     pub meant : node.stable key.name → IsTrue node.honest → IfOk result (λ v. v ≡ sum_meaning node.pictures key)
     pub shaped : IfOk result (λ v. IsTrue (sum_is_shaped node.pictures key v))
     pub given : IfErr result (λ f. IsTrue (is_given (node.gave key.name) f))
+    pub below : AsksBelow key old new
+    pub asked : OnOk result (AsksParts key old new)
     pub counted : (old.tile.gets ≤ new.tile.gets) × (old.sum.gets ≤ new.sum.gets)
     pub parts : (new.tile.parts ≡ old.tile.parts) × (new.sum.parts ≡ old.sum.parts)
 
@@ -49,6 +58,8 @@ module _ {J : Type 0} (node : system.Ghosts J) (key : SumKey) (old new : Passes 
     pub meant : node.stable key.name → IsTrue node.honest → ForOk result (λ v. arc_value v ≡ sum_meaning node.pictures key)
     pub shaped : ForOk result (λ v. IsTrue (sum_is_shaped node.pictures key (arc_value v)))
     pub given : ForErr result (λ f. IsTrue (is_given (node.gave key.name) f))
+    pub below : AsksBelow key old new
+    pub asked : ForOk result (λ v. AsksParts key old new)
     pub counted : (old.tile.gets ≤ new.tile.gets) × (old.sum.gets ≤ new.sum.gets)
     pub parts : (new.tile.parts ≡ old.tile.parts) × (new.sum.parts ≡ old.sum.parts)
 
@@ -57,6 +68,8 @@ module _ {J : Type 0} (node : system.Ghosts J) (key : SumKey) (old new : Passes 
     pub meant : node.stable key.name → IsTrue node.honest → ForOk result (λ v. arc_value v ≡ sum_meaning node.pictures key)
     pub shaped : ForOk result (λ v. IsTrue (sum_is_shaped node.pictures key (arc_value v)))
     pub given : ForErr result (λ u. IsTrue (is_given (node.gave key.name) (fault_in u)))
+    pub below : AsksBelow key old new
+    pub asked : ForOk result (λ v. AsksParts key old new)
     pub counted : (old.tile.gets ≤ new.tile.gets) × (old.sum.gets ≤ new.sum.gets)
     pub parts : (new.tile.parts ≡ old.tile.parts) × (new.sum.parts ≡ old.sum.parts)
 
@@ -66,6 +79,7 @@ module _ {J L : Type 0} {a b c : _} {d : system.Ghosts J} where
     pub outcome : IfOk result (KnowsSums key)
     pub risen : OnOk result (old.sum.gets + 1 ≤ new.sum.gets)
     pub refused : OnErr result ((new.tile.gets ≡ old.tile.gets) × (new.sum.gets ≡ old.sum.gets))
+    pub below : AsksFor key old new
     pub counted : (old.tile.gets ≤ new.tile.gets) × (old.sum.gets ≤ new.sum.gets)
     pub parts : (new.tile.parts ≡ old.tile.parts) × (new.sum.parts ≡ old.sum.parts)
     pub fault : IfErr result (λ f. f ≡ NoMemory)

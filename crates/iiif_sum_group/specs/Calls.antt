@@ -11,11 +11,12 @@ use Rattle.iiif_outcome.specs.declared.receipt.Receipt.{Receipt}
 use Rattle.iiif_group.specs.Beginning.{BegunFor}
 use Rattle.iiif_group.specs.declared.begun.Begun.{Begun}
 use Rattle.iiif_tile_group.specs.Faults.{IsLoadFault}
+use Rattle.iiif_sum_group.specs.Below.{AsksBelow, AsksFor, AsksParts}
 use Rattle.iiif_sum_group.specs.Outcomes.{IsRefused, KnowsSums, NamesBlock}
 use Rattle.iiif_group.specs.declared.passes.Passes.{Passes}
 
 module _ {J : Type 0} where
-  -- Sums that were loaded, or why not. The calls for what they are made of are counted.
+  -- Sums that were loaded, or why not.
   pub record Loads (node : system.Ghosts J) (key : SumKey) (old new : Passes J) (result : Result SumVal Fault) : Type 0 where
     -- Where its image is stable and other nodes are honest, the sums are the key's meaning.
     pub meant : node.stable key.name → IsTrue node.honest → IfOk result (λ v. v ≡ sum_meaning node.pictures key)
@@ -26,18 +27,24 @@ module _ {J : Type 0} where
     -- A fault tells why the key names none; or the source of its image gave it, or memory ran out.
     pub fault : IfErr result (IsLoadFault node.pictures node.edge key.name key.edge (λ s. SumFitsIn s.dim (channels_of s.kind) key)
         (node.gave key.name))
+    -- They are made of blocks of lower levels and of tiles alone.
+    pub below : AsksBelow key old new
+    -- Each of their parts was asked for.
+    pub asked : OnOk result (AsksParts key old new)
     -- Tiles and sums are counted as they are got.
     pub counted : (old.tile.gets ≤ new.tile.gets) × (old.sum.gets ≤ new.sum.gets)
     -- The passes have as many parts as before.
     pub parts : (new.tile.parts ≡ old.tile.parts) × (new.sum.parts ≡ old.sum.parts)
 
 module _ {J L : Type 0} {a b c : _} {d : system.Ghosts J} where
-  -- A call for sums: the outcome of a flight of their key. The calls for what they are made of are counted too.
+  -- A call for sums: the outcome of a flight of their key.
   pub record Gets (key : SumKey) (old new : Passes J) (result : Result (Receipt SumKey J L SumVal a b c d) Fault) : Type 0 where
     -- The receipt is of the key.
     pub outcome : IfOk result (KnowsSums key)
     -- The call entered, and was counted.
     pub risen : OnOk result (old.sum.gets + 1 ≤ new.sum.gets)
+    -- So were the calls for what the sums are made of: blocks of lower levels and tiles alone.
+    pub below : AsksFor key old new
     -- A refused call isn't counted.
     pub refused : OnErr result ((new.tile.gets ≡ old.tile.gets) × (new.sum.gets ≡ old.sum.gets))
     -- Tiles and sums are counted as they are got.

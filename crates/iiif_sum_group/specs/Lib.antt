@@ -1,5 +1,6 @@
 pub mod Values
 pub mod Views
+pub mod Below
 pub mod Outcomes
 pub mod Calls
 pub mod Code

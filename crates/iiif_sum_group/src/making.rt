@@ -6,7 +6,7 @@ ghost use Rattle.iiif_keys.specs.Shapes.{HasPicture};
 ghost use Rattle.iiif_outcome.specs.Outcomes.{is_given};
 ghost use Rattle.iiif_group.specs.Beginning.{open_key};
 ghost use Rattle.iiif_group.specs.Ending.{IsExact, TellsFault};
-ghost use Rattle.iiif_sum_group.specs.Asking.{AskedAll, Asks, HasAsManyParts, Makes, MakesOfParts, MakesOne, Rises};
+ghost use Rattle.iiif_sum_group.specs.Asking.{AskedAll, Asks, AsksSoMany, HasAsManyParts, Makes, MakesOfParts, MakesOne, Rises};
 ghost use Rattle.iiif_sum_group.specs.declared.make_error.MakeError.TheVariants.{Total};
 ghost use Rattle.iiif_sum_group.specs.Code.{Boxes, CanTotal, FitsShape, HasQuarters, HasTile, HasValues, Keeps, Totals};
 ghost use Rattle.iiif_sum_group.specs.Outcomes.{EndsWith, KnowsSums};
@@ -219,6 +219,7 @@ impl<
         ensures given { IfErr result (λ f. IsTrue (is_given (J.gave key.now.name) f)) }
         ensures counted { Rises passes.old passes.new }
         ensures asked { OnOk result (AskedAll keys.now passes.old passes.new) }
+        ensures below { AsksSoMany key.now.level (length keys.now) passes.old passes.new }
         ensures parts { HasAsManyParts passes.old passes.new }
     {
         // Laws of keys.

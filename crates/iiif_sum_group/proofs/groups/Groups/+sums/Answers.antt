@@ -1,15 +1,20 @@
-use Rattle.std.proofs.Common.{arith, ◌≡◌, ◌∙◌, ◌*◌, ◌<◌, ◌≤◌, ℕ, List, length, refl, sym, subst, get_or, IsTrue}
+use Rattle.std.proofs.Common.{arith, rules, ◌≡◌, ◌∙◌, ◌+◌, ◌*◌, ◌<◌, ◌≤◌, ℕ, List, length, refl, sym, subst, get_or, Global, IsTrue}
 use Rattle.std.proofs.lemmas.List.{take_all}
 use Rattle.std.proofs.lemmas.List.Elements.{All-get_or}
-use Rattle.std.proofs.lemmas.Result.{err_from_is_err_and}
+use Rattle.std.proofs.lemmas.Result.{err_from_is_err_and, IfOk-at_ok}
 use Rattle.std.specs.Arc.{arc_value}
+use Rattle.std.specs.declared.sync.Arc.{Arc}
+use Rattle.std.specs.Prelude.{◌^◌}
 use Rattle.iiif_pixel.specs.Geometry.{channels_of}
 use Rattle.iiif_keys.specs.Laws.{IsBelow}
-use Rattle.iiif_keys.specs.Meaning.{sums_below}
+use Rattle.iiif_keys.specs.Meaning.{sum_is_shaped, sum_meaning, sums_below}
 use Rattle.iiif_keys.specs.Shapes.{HasPicture}
 use Rattle.iiif_keys.specs.declared.keys.SumKey.{SumKey}
+use Rattle.iiif_keys.specs.declared.values.SumVal.{SumVal}
 use Rattle.iiif_outcome.specs.Outcomes.{is_given}
 use Rattle.iiif_sum_group.specs.Values.{AreValuesOf, MayBeAsked}
+use Rattle.iiif_sum_group.specs.Below.{blocks_below}
+use Rattle.iiif_sum_group.proofs.CountLemmas.{below_of_parts, one_more_asked, one_part_more, parts_of_quarters}
 use Rattle.iiif_sum_group.proofs.SumLemmas.{fault_passed_on, one_value_more}
 use Rattle.iiif_sum_group.proofs.groups.Groups.+sums.Goals as goal
 
@@ -35,6 +40,9 @@ ask_parts-loop-part-preserved g t c =
           c.in_ok-keep.ensures.ok;
       tile = omega (arith, before.tile, asked.counted.0);
       sum = omega (arith, before.sum, asked.risen);
+      most_sum = one_part_more (λ l. 2 * (1 + blocks_below l)) c.args.key.now.level k.level _ _ _ i below.level before.most_sum
+          asked.below.sums;
+      most_tile = one_part_more (λ l. 2 * 4 ^ l) c.args.key.now.level k.level _ _ _ i below.level before.most_tile asked.below.tiles;
       tile_parts = asked.parts.0 ∙ before.tile_parts;
       sum_parts = asked.parts.1 ∙ before.sum_parts;
     }
@@ -62,6 +70,70 @@ pub ask_parts-returns-clause-asked : goal.ask_parts-returns-clause-asked
 ask_parts-returns-clause-asked g t c =
     let past : length c.args.keys.now ≤ c.loop-part.part-index = omega arith in
     omega (arith, past, c.loop-part.invariant.sum)
+
+pub ask_parts-returns-in_err-value-clause-below : goal.ask_parts-returns-in_err-value-clause-below
+ask_parts-returns-in_err-value-clause-below g t c =
+    let keys = c.args.keys.now in
+    let i = c.loop-part.part-index in
+    let k = c.part-item.result in
+    let below : IsBelow c.args.key.now k = subst (IsBelow c.args.key.now) (sym c.part-item.is)
+    (All-get_or (IsBelow c.args.key.now) keys i k c.loop-part-test.true c.requires.may.below) in
+    one_more_asked c.args.key.now k _ _ _ i (length keys) below.level c.loop-part-test.true c.loop-part.invariant.most_sum
+    c.loop-part.invariant.most_tile c.ask_part.ensures.below
+
+pub ask_parts-returns-in_err-keep-clause-below : goal.ask_parts-returns-in_err-keep-clause-below
+ask_parts-returns-in_err-keep-clause-below g t c =
+    let keys = c.args.keys.now in
+    let i = c.loop-part.part-index in
+    let k = c.part-item.result in
+    let below : IsBelow c.args.key.now k = subst (IsBelow c.args.key.now) (sym c.part-item.is)
+    (All-get_or (IsBelow c.args.key.now) keys i k c.loop-part-test.true c.requires.may.below) in
+    one_more_asked c.args.key.now k _ _ _ i (length keys) below.level c.loop-part-test.true c.loop-part.invariant.most_sum
+    c.loop-part.invariant.most_tile c.ask_part.ensures.below
+
+pub make_of_parts-returns-in-Ok-combine_parts-clause-made : goal.make_of_parts-returns-in-Ok-combine_parts-clause-made
+make_of_parts-returns-in-Ok-combine_parts-clause-made g t c =
+    let key = c.args.key.now in
+    let quarters = c.args.quarters.now in
+    record {
+      meant = λ stable honest x e. IfOk-at_ok (λ (v : Arc SumVal Global). arc_value v ≡ sum_meaning g.J.System.pictures key) e
+          (c.combine_parts.ensures.meant stable honest c.in-Ok-combine_parts.value c.in-Ok-combine_parts.is);
+      shaped = λ x e. IfOk-at_ok (λ (v : Arc SumVal Global). IsTrue (sum_is_shaped g.J.System.pictures key (arc_value v))) e
+          (c.combine_parts.ensures.shaped c.in-Ok-combine_parts.value c.in-Ok-combine_parts.is);
+      given = search rules;
+      below = below_of_parts key quarters _ _ c.requires.level c.requires.quarters_are c.ask_parts.ensures.below;
+      asked = λ v e. parts_of_quarters key quarters _ _ c.requires.level c.requires.quarters_are c.in-Ok.ensures.asked;
+      counted = search rules;
+      parts = search rules;
+    }
+
+pub make_of_parts-returns-in-Err-combine_parts-clause-made : goal.make_of_parts-returns-in-Err-combine_parts-clause-made
+make_of_parts-returns-in-Err-combine_parts-clause-made g t c =
+    let key = c.args.key.now in
+    let quarters = c.args.quarters.now in
+    record {
+      meant = search rules;
+      shaped = search rules;
+      given = search rules;
+      below = below_of_parts key quarters _ _ c.requires.level c.requires.quarters_are c.ask_parts.ensures.below;
+      asked = search rules;
+      counted = search rules;
+      parts = search rules;
+    }
+
+pub make_of_parts-returns-in-Err-clause-made : goal.make_of_parts-returns-in-Err-clause-made
+make_of_parts-returns-in-Err-clause-made g t c =
+    let key = c.args.key.now in
+    let quarters = c.args.quarters.now in
+    record {
+      meant = search rules;
+      shaped = search rules;
+      given = search rules;
+      below = below_of_parts key quarters _ _ c.requires.level c.requires.quarters_are c.ask_parts.ensures.below;
+      asked = search rules;
+      counted = search rules;
+      parts = search rules;
+    }
 
 -- Nothing is left to prove of the clause `late`: an edit writes here what would be, of a body that makes the total first;
 -- and no arithmetic proves it, as no part was asked by then.

@@ -1,5 +1,6 @@
-use Rattle.std.proofs.Common.{◌≡◌, ◌*◌, ◌+◌, ◌≤◌, take}
-use Rattle.std.specs.Prelude.{IsTrue}
+use Rattle.std.proofs.Common.{◌≡◌, ◌*◌, ◌+◌, ◌-◌, ◌≤◌, take}
+use Rattle.std.specs.Prelude.{◌^◌, IsTrue}
+use Rattle.iiif_sum_group.specs.Below.{blocks_below}
 use Rattle.iiif_sum_group.specs.Values.{AreValuesOf}
 use Rattle.iiif_sum_group.proofs.groups.Groups.+sums.Given as goal
 
@@ -11,6 +12,8 @@ invariant-ask_parts-loop-part g l =
           l.values.items;
       tile : l.fn.passes.tile.gets ≤ l.passes.tile.gets;
       sum : l.fn.passes.sum.gets + l.part-index ≤ l.passes.sum.gets;
+      most_sum : l.passes.sum.gets ≤ l.fn.passes.sum.gets + l.part-index * (2 * (1 + blocks_below (l.key.level - 1)));
+      most_tile : l.passes.tile.gets ≤ l.fn.passes.tile.gets + l.part-index * (2 * 4 ^ (l.key.level - 1));
       tile_parts : l.passes.tile.parts ≡ l.fn.passes.tile.parts;
       sum_parts : l.passes.sum.parts ≡ l.fn.passes.sum.parts;
     }

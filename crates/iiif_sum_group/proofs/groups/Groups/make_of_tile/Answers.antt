@@ -1,4 +1,4 @@
-use Rattle.std.proofs.Common.{◌∙◌, rules, ap, refl, subst, sym}
+use Rattle.std.proofs.Common.{◌∙◌, arith, rules, ap, refl, subst, sym}
 use Rattle.std.specs.Arc.{arc_value}
 use Rattle.std.specs.Prelude.{IsTrue}
 use Rattle.iiif_keys.specs.Meaning.{tile_below, tile_is_shaped, tile_meaning, TileHasShape}
@@ -6,6 +6,7 @@ use Rattle.iiif_keys.specs.Names.{named}
 use Rattle.iiif_keys.specs.declared.keys.Shape.{Shape}
 use Rattle.iiif_keys.specs.declared.keys.TileKey.{TileKey}
 use Rattle.iiif_keys.specs.declared.values.TileVal.{TileVal}
+use Rattle.iiif_sum_group.proofs.CountLemmas.{below_of_tile}
 use Rattle.iiif_sum_group.proofs.groups.Groups.make_of_tile.Goals as goal
 
 pub of_tile-requires-clause-tile : goal.of_tile-requires-clause-tile
@@ -32,6 +33,8 @@ returns-in-Ok-of_tile g c =
       shaped = (c.laws-2.ensures.shapes shows c.args.shape.now c.args.key.now c.in-Ok-of_tile.sums c.requires.known).1
           c.in-Ok-of_tile.ensures.shape;
       given = tt;
+      below = below_of_tile _ _ _ c.requires.level refl refl c.in-Ok.ensures.counted.1;
+      asked = record { tile = λ level. c.in-Ok.ensures.counted.0; quarters = λ above. absurd (omega (arith, above, c.requires.level)) };
       counted = search rules;
       parts = search rules;
     }
