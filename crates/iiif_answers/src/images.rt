@@ -7,7 +7,7 @@ ghost use Rattle.iiif_pixel.specs.TurnPlaces.{turned_dim};
 ghost use Rattle.iiif_keys.specs.Blocks.{IsEdge};
 ghost use Rattle.iiif_keys.specs.Names.{IsSource};
 ghost use Rattle.iiif_keys.specs.Shapes.{shape_of};
-ghost use Rattle.iiif_assemble.specs.Jobs.{IsJob};
+ghost use Rattle.iiif_assemble.specs.Jobs.{HasPlan, IsJob};
 ghost use Rattle.iiif_request.specs.Requests.{HasShortDecimals};
 ghost use Rattle.iiif_tiff_write.specs.File.{file_len};
 ghost use Rattle.iiif_tile_group.specs.Items.{item_of};
@@ -135,6 +135,7 @@ pub fn job_of<R, S: Source<R>>(
     ensures edge { IfOk result (λ j. j.edge ≡ edge) }
     ensures resolved { IfOk result (λ j. j.resolved ≡ accepted.now.resolved) }
     ensures shape { IfOk result (λ j. shape_of (picture_in S.bytes (item_of entry.now)) ≡ j.shape) }
+    ensures plan { IfOk result (HasPlan 65536) }
     ensures source { IsSource (picture_in S.bytes (item_of entry.now)) }
 {
     let shape = entry.shape();

@@ -1,5 +1,5 @@
 -- The bands of a job.
-use Rattle.std.proofs.Common.{ℕ, ◌<◌, min, sym, subst, arith}
+use Rattle.std.proofs.Common.{ℕ, ◌<◌, sym, subst, arith}
 use Rattle.std.specs.Int.{div_ceil}
 use Rattle.iiif_pixel.specs.Geometry.{LiesIn}
 use Rattle.iiif_pixel.specs.TurnPlaces.{turned_dim}

@@ -33,6 +33,12 @@ use Rattle.iiif_assemble.specs.declared.job.Job.{Job}
 use Rattle.iiif_assemble.proofs.ImageLemmas.{picture_shown}
 use Rattle.iiif_assemble.proofs.SumLemmas.{tile_meant}
 
+-- a list of one element has just this
+pub one_key : {K : Type 0} (keys : List K) (k : K) → length keys ≡ 1 → get_or keys 0 k ≡ k → keys ≡ k ∷ []
+one_key [] k one first = absurd (omega (arith, one))
+one_key (x ∷ []) k one first = ap (λ y. y ∷ []) first
+one_key (x ∷ (y ∷ keys)) k one first = absurd (omega (arith, one))
+
 -- the last of some values is that of an item
 pub last_zipped : {A B : Type 0} (R : A → B → Type 0) (xs : List A) (ys : List B) (y : B) → AllZip R xs (ys ++ y ∷ []) → (x : A) × R x y
 last_zipped R [] [] y h = absurd h

@@ -1,9 +1,9 @@
 -- The first of the items whose keys can't be had.
-use Rattle.std.proofs.Common.{◌≡◌, ℕ, Bool, true, false, List, All}
+use Rattle.std.proofs.Common.{◌≡◌, false}
 use Rattle.std.proofs.lemmas.List.Elements.{All-weaker}
 use Rattle.iiif_keys.specs.declared.fault.Fault.{Fault}
-use Rattle.iiif_assemble.specs.FirstFault.{FirstBadIsTold, IsOfFirstBad}
-use Rattle.iiif_assemble.specs.Gathering.{FailedFirst, HasItem}
+use Rattle.iiif_assemble.specs.FirstFault.{FirstBadIsTold}
+use Rattle.iiif_assemble.specs.Gathering.{HasItem}
 
 pub first_bad_is_told : {K V : Type 0} (means : K → V → Type 0) (failed : K → Fault → Type 0) → FirstBadIsTold means failed
 first_bad_is_told {K} {V} means failed bad good ill keys items fault some h = record {

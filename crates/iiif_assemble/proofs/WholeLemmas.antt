@@ -1,6 +1,6 @@
 -- The band of all rows lists each item of a plan.
 use Rattle.std.proofs.Common.{◌≡◌, ℕ, zero, suc, ◌+◌, ◌-◌, ◌*◌, ◌/◌, ◌^◌, ◌<◌, ◌≤◌, List, [], ◌∷◌, Bool, true, false, All, length, refl}
-use Rattle.std.proofs.Common.{sym, subst, ap, ◌∙◌, arith, ⊎_elim, if◌then◌else◌}
+use Rattle.std.proofs.Common.{◌↔◌, sym, subst, ap, ◌∙◌, arith, ⊎_elim, if◌then◌else◌}
 use Rattle.std.specs.Int.{div_ceil}
 use Rattle.std.specs.List.{range_with_len}
 use Rattle.std.proofs.Math.Nat.{one-le-mul, mul-le-mul_right}
@@ -129,27 +129,56 @@ lists_all {K} P keys items each lists =
     let test = lists.0 in
     lists.2 ∙ places_all 0 test keys (All-weaker P (λ k. test k ≡ true) (λ k h. (lists.1 k).1 h) keys each)
 
--- the fault of the band of all rows is that of the plan
-pub plan_fault : (tile : TileKey → TileVal → Type 0) (tile_failed : TileKey → Fault → Type 0) (sum : SumKey → SumVal → Type 0)
-    (sum_failed : SumKey → Fault → Type 0)
-    (name : List ℕ) (edge : ℕ) (image : Dim) (channels room : ℕ) (r : Resolved) (plan : Plan) (items : List ℕ) (fault : Fault) →
+abbrev items_in : Plan → ℕ
+items_in (Copy keys) = length keys.items
+items_in (Grow keys) = length keys.items
+items_in (Sum keys) = length keys.items
+
+-- the band of all rows lists each item
+all_items : (name : List ℕ) (edge : ℕ) (image : Dim) (channels room : ℕ) (r : Resolved) (plan : Plan) (items : List ℕ) →
     r.turn.quarters < 4 → LiesIn r.rect image → 0 < r.size.w → 0 < r.size.h →
     IsPlan name edge image channels room r plan → ListsItems r plan (whole_of (turned_dim r.turn r.size)) items →
-    IsBandFault tile tile_failed sum sum_failed plan items fault → IsPlanFault tile tile_failed sum sum_failed plan fault
-plan_fault tile tile_failed sum sum_failed name edge image channels room r (Copy keys) items fault few lies w h planned lists of_band =
+    items ≡ range_with_len 0 (items_in plan)
+all_items name edge image channels room r (Copy keys) items few lies w h planned lists =
     let P : TileKey → Type 0 = λ k. ReachesInto r.turn r.size (tile_places r.rect k) (whole_of (turned_dim r.turn r.size)) in
     let each : All P keys.items = All-weaker (IsTileFor name edge image channels r.rect) P
     (λ k b. subst (λ (d : Dim). ReachesInto r.turn d (tile_places r.rect k) (whole_of (turned_dim r.turn d))) (sym planned.0)
     (tile_reaches name edge image channels r.rect r.turn k few lies b)) keys.items planned.1.tiles in
-    subst (λ (js : List ℕ). IsItemFault tile tile_failed keys.items js fault) (lists_all P keys.items items each lists) of_band
-plan_fault tile tile_failed sum sum_failed name edge image channels room r (Grow keys) items fault few lies w h planned lists of_band =
+    lists_all P keys.items items each lists
+all_items name edge image channels room r (Grow keys) items few lies w h planned lists =
     let P : TileKey → Type 0 = λ k. ReachesInto r.turn r.size (grown_places r.rect r.size k) (whole_of (turned_dim r.turn r.size)) in
     let each : All P keys.items = All-weaker (IsTileFor name edge image channels r.rect) P
     (λ k b. grown_reaches name edge image channels r.rect r.size r.turn k few lies w h b) keys.items planned.1.tiles in
-    subst (λ (js : List ℕ). IsItemFault tile tile_failed keys.items js fault) (lists_all P keys.items items each lists) of_band
-plan_fault tile tile_failed sum sum_failed name edge image channels room r (Sum keys) items fault few lies w h planned lists of_band =
+    lists_all P keys.items items each lists
+all_items name edge image channels room r (Sum keys) items few lies w h planned lists =
     let level = planned.1 in
     let P : SumKey → Type 0 = λ k. ReachesInto r.turn r.size (block_places k) (whole_of (turned_dim r.turn r.size)) in
     let each : All P keys.items = All-weaker (IsBlockFor name edge image channels r.rect r.size level) P
     (λ k b. block_reaches name edge image channels r.rect r.size level r.turn k few b) keys.items planned.3.blocks in
-    subst (λ (js : List ℕ). IsItemFault sum sum_failed keys.items js fault) (lists_all P keys.items items each lists) of_band
+    lists_all P keys.items items each lists
+
+module _ (tile : TileKey → TileVal → Type 0) (tile_failed : TileKey → Fault → Type 0) (sum : SumKey → SumVal → Type 0)
+    (sum_failed : SumKey → Fault → Type 0) where
+  over_all : (plan : Plan) (items : List ℕ) (fault : Fault) → items ≡ range_with_len 0 (items_in plan) →
+      IsBandFault tile tile_failed sum sum_failed plan items fault ↔ IsPlanFault tile tile_failed sum sum_failed plan fault
+  over_all (Copy keys) items fault all = (
+    subst (λ (js : List ℕ). IsItemFault tile tile_failed keys.items js fault) all,
+    subst (λ (js : List ℕ). IsItemFault tile tile_failed keys.items js fault) (sym all),
+  )
+  over_all (Grow keys) items fault all = (
+    subst (λ (js : List ℕ). IsItemFault tile tile_failed keys.items js fault) all,
+    subst (λ (js : List ℕ). IsItemFault tile tile_failed keys.items js fault) (sym all),
+  )
+  over_all (Sum keys) items fault all = (
+    subst (λ (js : List ℕ). IsItemFault sum sum_failed keys.items js fault) all,
+    subst (λ (js : List ℕ). IsItemFault sum sum_failed keys.items js fault) (sym all),
+  )
+
+  -- the fault of the band of all rows is that of the plan, and the other way round
+  pub plan_fault : (name : List ℕ) (edge : ℕ) (image : Dim) (channels room : ℕ) (r : Resolved) (plan : Plan) (items : List ℕ)
+      (fault : Fault) →
+      r.turn.quarters < 4 → LiesIn r.rect image → 0 < r.size.w → 0 < r.size.h →
+      IsPlan name edge image channels room r plan → ListsItems r plan (whole_of (turned_dim r.turn r.size)) items →
+      IsBandFault tile tile_failed sum sum_failed plan items fault ↔ IsPlanFault tile tile_failed sum sum_failed plan fault
+  plan_fault name edge image channels room r plan items fault few lies w h planned lists =
+      over_all plan items fault (all_items name edge image channels room r plan items few lies w h planned lists)

@@ -15,6 +15,7 @@ use Rattle.iiif_keys.specs.declared.values.SumVal.{SumVal}
 use Rattle.iiif_keys.specs.declared.values.TileVal.{TileVal}
 use Rattle.iiif_planner.specs.Plans.{IsBlockFor, IsPlan, IsTileFor}
 use Rattle.iiif_planner.specs.Bands.{ListsItems}
+use Rattle.iiif_planner.specs.Items.{HasItems}
 use Rattle.iiif_planner.specs.declared.banding.Band.{Band}
 use Rattle.iiif_assemble.specs.declared.job.Job.{Job}
 
@@ -25,6 +26,10 @@ pub record IsJob (j : Job) : Type 0 where
   pub inside : LiesIn j.resolved.rect j.shape.dim
   pub scalable : IsScalable (sides_of j.resolved.rect) j.resolved.size
   pub quarters : j.resolved.turn.quarters < 4
+
+-- The plan of a job is that of its request, of blocks with at most so many sums where there are such.
+abbrev pub HasPlan : ℕ → Job → Type 0
+HasPlan room j = HasItems j.name j.edge j.shape.dim (channels_of j.shape.kind) room j.resolved j.plan
 
 -- A band of the job's result, with the items of its plan that have a place of it.
 pub record IsBandOf (j : Job) (b : Band) : Type 0 where

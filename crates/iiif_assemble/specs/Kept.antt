@@ -1,5 +1,6 @@
 -- What is kept of the sums of a band's blocks.
-use Rattle.std.specs.Prelude.{◌≡◌, ℕ, ◌<◌, ◌≤◌, ◌⊎◌, List, [], ◌∷◌, ◌++◌, All, Contains, OnErr, OnOk, Result, length}
+use Rattle.std.specs.Prelude.{◌≡◌, ℕ, ◌-◌, ◌^◌, ◌<◌, ◌≤◌, ◌⊎◌, min, List, [], ◌∷◌, ◌++◌, All, Contains, OnErr, OnOk, Result, length}
+use Rattle.std.specs.List.{sum_by}
 use Rattle.std.specs.Arc.{arc_value}
 use Rattle.iiif_keys.specs.declared.fault.Fault.{Fault}
 use Rattle.iiif_keys.specs.declared.keys.SumKey.{SumKey}
@@ -12,6 +13,14 @@ use Rattle.iiif_assemble.specs.declared.kept.KeptSum.{KeptSum}
 -- each value that is kept may be answered for its key
 abbrev pub AreKept : (SumKey → SumVal → Type 0) → List KeptSum → Type 0
 AreKept means kept = All (λ s. means s.key (arc_value s.value)) kept
+
+-- how many sums a value has that is kept
+abbrev pub sums_at : KeptSum → ℕ
+sums_at s = length (arc_value s.value).sums.sums
+
+-- how many sums are kept, as far as 64 bits count
+abbrev pub kept_len : List KeptSum → ℕ
+kept_len kept = min (sum_by (λ s. sums_at s) kept) (2 ^ 64 - 1)
 
 -- a key's value is kept too
 abbrev pub IsKeptToo : SumKey → SumVal → List KeptSum → List KeptSum → Type 0

@@ -3,6 +3,7 @@ pub mod Jobs
 pub mod Faults
 pub mod FirstFault
 pub mod Code
+pub mod Making
 pub mod Kept
 pub mod Lone
 pub mod Opening

@@ -1,31 +1,30 @@
 //! Bands of the image of a request.
 
 ghost use Rattle.std.specs.Prelude.{◌≡◌, ℕ, ◌<◌, IfOk, IfErr, length};
-ghost use Rattle.iiif_pixel.specs.Geometry.{channels_of, sides_of, top_of, LiesIn};
-ghost use Rattle.iiif_pixel.specs.Picture.{Picture, dim_of};
+ghost use Rattle.iiif_pixel.specs.Geometry.{sides_of, LiesIn};
 ghost use Rattle.iiif_pixel.specs.Operations.{crop, turn, quality};
 ghost use Rattle.iiif_pixel.specs.Scaling.{scale};
-ghost use Rattle.iiif_pixel.specs.TurnPlaces.{turned_dim};
-ghost use Rattle.iiif_canonical.specs.Images.{resolved_image};
-ghost use Rattle.iiif_keys.specs.Names.{named, Pictures};
 ghost use Rattle.iiif_keys.specs.declared.fault.Fault.TheVariants as Fault;
-ghost use Rattle.iiif_assemble.specs.Jobs.{channels_in, top_in, IsBandOf, IsHeldFor, IsJob, IsShown, SumsAreMeant, SumsServe};
-ghost use Rattle.iiif_assemble.specs.Jobs.{TilesAreMeant, TilesServe};
-ghost use Rattle.iiif_assemble.specs.Code.{count_of, IsPictureOf, IsWithin, ListsMetItems};
-ghost use Rattle.iiif_assemble.specs.Faults.{IsBandFault, IsPlanFault};
+ghost use Rattle.iiif_assemble.specs.Jobs.{IsBandOf, IsJob, SumsAreMeant, SumsServe, TilesAreMeant, TilesServe};
+ghost use Rattle.iiif_assemble.specs.Code.{count_of, IsWithin, ListsMetItems};
+ghost use Rattle.iiif_assemble.specs.Faults.{IsBandFault};
+ghost use Rattle.iiif_assemble.specs.Making.{job_of, lent, Assembles, AssemblesBand, MakesScaled, MakesShown, MayAssemble};
+ghost use Rattle.iiif_assemble.specs.declared.job.Made.{Made};
 
-use crate::context::RenderContext;
+use crate::context::{ItemGroups, RenderContext};
 use crate::finishing::count_of;
 use crate::growing::grow;
 use crate::items::Items;
-use crate::job::{Job, Made};
+use crate::job::{ImageRef, JobRef, Made};
 use crate::merging::merge_sums;
 use crate::pasting::paste;
 use iiif_area::laws::same_sides_change_nothing;
+use iiif_canonical::Resolved;
 use iiif_keys::{Fault, SumKey, SumVal, TileKey, TileVal};
 use iiif_pixel::laws::{bands_follow, quality_of_crop, whole_stays_whole};
-use iiif_pixel::{Quality, Rect, Turn, unturn_rect};
+use iiif_pixel::{Quality, Raster, Rect, Turn, unturn_rect};
 use iiif_planner::{Band, Plan};
+use std::alloc::Global;
 use std::sync::Wait;
 use std::thread::Threads;
 
@@ -38,30 +37,26 @@ fn scale_part<
 >(
     context: &RenderContext<'_, A, B, R>,
     passes: &mut [P],
-    job: &Job,
+    job: &JobRef<'_>,
     items: &[usize],
     from: Rect,
 ) -> Result<Made, Fault>
     requires some { 0 < length passes.old }
-    requires job { IsJob job.now }
-    requires inside { LiesIn from job.now.resolved.size }
-    requires lists { ListsMetItems job.now.resolved from job.now.plan items.now }
-    requires tiles { TilesServe job.now (A.fits context.now.tiles.now) (A.means context.now.tiles.now) }
-    requires sums { SumsServe job.now (B.fits context.now.sums.now) (B.means context.now.sums.now) }
-    ensures image { IfOk result (λ m. (shows : Pictures) (p : Picture) → IsPictureOf shows job.now p
-        → TilesAreMeant shows job.now (A.means context.now.tiles.now) → SumsAreMeant shows job.now (B.means context.now.sums.now)
-        → m.raster ≡ crop (scale (crop p job.now.resolved.rect) job.now.resolved.size) from) }
-    ensures sides { IfOk result (λ m. dim_of m.raster ≡ sides_of from) }
-    ensures channels { IfOk result (λ m. m.raster.channels ≡ channels_of job.now.shape.kind) }
-    ensures top { IfOk result (λ m. m.raster.top ≡ top_of job.now.shape.depth) }
-    ensures held { IfOk result (λ m. IsWithin (count_of m.raster) m.held) }
-    ensures fault { IfErr result (IsBandFault (A.means context.now.tiles.now) (A.failed context.now.tiles.now)
-        (B.means context.now.sums.now) (B.failed context.now.sums.now) job.now.plan items.now) }
+    requires job { IsJob (lent job.now) }
+    requires inside { LiesIn from job.now.resolved.now.size }
+    requires lists { ListsMetItems job.now.resolved.now from job.now.plan.now items.now }
+    requires tiles { TilesServe (lent job.now) (A.fits context.now.tiles.now) (A.means context.now.tiles.now) }
+    requires sums { SumsServe (lent job.now) (B.fits context.now.sums.now) (B.means context.now.sums.now) }
+    ensures { MakesScaled (lent job.now) (λ shows. TilesAreMeant shows (lent job.now) (A.means context.now.tiles.now)
+        × SumsAreMeant shows (lent job.now) (B.means context.now.sums.now))
+        (λ p. scale (crop p job.now.resolved.now.rect) job.now.resolved.now.size) from
+        (IsBandFault (A.means context.now.tiles.now) (A.failed context.now.tiles.now) (B.means context.now.sums.now)
+        (B.failed context.now.sums.now) job.now.plan.now items.now) result }
 {
     // Laws of scaling and of pictures.
     same_sides_change_nothing();
     whole_stays_whole();
-    match &job.plan {
+    match job.plan {
         Plan::Copy(keys) => paste(context, passes, job, keys, items, from),
         Plan::Grow(keys) => grow(context, passes, job, keys, items, from),
         Plan::Sum(keys) => merge_sums(context, passes, job, keys, items, from),
@@ -105,14 +100,8 @@ fn apply_quality(made: Made, to: Quality) -> Result<Made, Fault>
     }
 }
 
-/// A band of the image of a job: just these rows, made of the items that have a place of them. There is a worker for each pass,
-/// and which of them asks for an item changes nothing. Where a key's value isn't its meaning, as where a source's bytes change,
-/// the samples are any, and all else holds.
-///
-/// # Errors
-///
-/// The fault of the first item of the band, in the plan's order, that failed; or `NoMemory`.
-pub fn assemble_band<
+/// Renders a band of the image of a job, of the items that have a place of it, and counts the samples and sums that are held meanwhile.
+fn render_band<
     A: Items<TileKey, TileVal, P, R> + Sync,
     B: Items<SumKey, SumVal, P, R> + Sync,
     P: Send,
@@ -120,27 +109,22 @@ pub fn assemble_band<
 >(
     context: &RenderContext<'_, A, B, R>,
     passes: &mut [P],
-    job: &Job,
+    job: &JobRef<'_>,
     band: &Band,
 ) -> Result<Made, Fault>
     requires some { 0 < length passes.old }
-    requires job { IsJob job.now }
-    requires band { IsBandOf job.now band.now }
-    requires tiles { TilesServe job.now (A.fits context.now.tiles.now) (A.means context.now.tiles.now) }
-    requires sums { SumsServe job.now (B.fits context.now.sums.now) (B.means context.now.sums.now) }
-    ensures image { IfOk result (λ m. (shows : Pictures)
-        → IsShown shows job.now (A.means context.now.tiles.now) (B.means context.now.sums.now)
-        → m.raster ≡ crop (resolved_image (named shows job.now.name) job.now.resolved) band.now.rect) }
-    ensures sides { IfOk result (λ m. dim_of m.raster ≡ sides_of band.now.rect) }
-    ensures channels { IfOk result (λ m. m.raster.channels ≡ channels_in job.now.resolved.quality (channels_of job.now.shape.kind)) }
-    ensures top { IfOk result (λ m. m.raster.top ≡ top_in job.now.resolved.quality (top_of job.now.shape.depth)) }
-    ensures held { IfOk result (λ m. IsHeldFor (sides_of band.now.rect) (channels_of job.now.shape.kind) m.held) }
-    ensures fault { IfErr result (IsBandFault (A.means context.now.tiles.now) (A.failed context.now.tiles.now)
-        (B.means context.now.sums.now) (B.failed context.now.sums.now) job.now.plan band.now.items.items) }
+    requires job { IsJob (lent job.now) }
+    requires band { IsBandOf (lent job.now) band.now }
+    requires tiles { TilesServe (lent job.now) (A.fits context.now.tiles.now) (A.means context.now.tiles.now) }
+    requires sums { SumsServe (lent job.now) (B.fits context.now.sums.now) (B.means context.now.sums.now) }
+    ensures { MakesShown (λ (m : Made). m.raster) (λ m. m.held) (lent job.now) (A.means context.now.tiles.now)
+        (B.means context.now.sums.now) (λ p. crop p band.now.rect) (sides_of band.now.rect)
+        (IsBandFault (A.means context.now.tiles.now) (A.failed context.now.tiles.now) (B.means context.now.sums.now)
+        (B.failed context.now.sums.now) job.now.plan.now band.now.items.items) result }
 {
     // A law of qualities.
     quality_of_crop();
-    let resolved = &job.resolved;
+    let resolved = job.resolved;
     let from = unturn_rect(resolved.turn, resolved.size, band.rect);
     match scale_part(context, passes, job, &band.items, from) {
         Ok(scaled) => match apply_turn(scaled, resolved.turn) {
@@ -151,7 +135,51 @@ pub fn assemble_band<
     }
 }
 
-/// The image of a job: the band of all its rows.
+/// Assembles a band of the image that a plan is of: just these rows, made of the items that have a place of them. There is a worker for
+/// each pass, and which of them asks for an item changes nothing. Where a key's value isn't its meaning, as where a source's bytes change,
+/// the samples are any, and all else holds. `held` becomes how many samples and sums of the result were held at once, at most.
+///
+/// # Errors
+///
+/// The fault of the first item of the band, in the plan's order, that failed; or `NoMemory`.
+pub fn assemble_band<
+    A: Items<TileKey, TileVal, P, R> + Sync,
+    B: Items<SumKey, SumVal, P, R> + Sync,
+    P: Send,
+    R: Threads + Wait + Sync,
+>(
+    rt: &R,
+    alloc: Global,
+    groups: &ItemGroups<'_, A, B>,
+    passes: &mut [P],
+    resolved: &Resolved,
+    plan: &Plan,
+    image: &ImageRef<'_>,
+    band: &Band,
+    held: &mut u64,
+) -> Result<Raster, Fault>
+    requires some { 0 < length passes.old }
+    requires may { MayAssemble A.Items B.Items groups.now (job_of image.now resolved.now plan.now) }
+    requires band { IsBandOf (job_of image.now resolved.now plan.now) band.now }
+    ensures { AssemblesBand A.Items B.Items groups.now (job_of image.now resolved.now plan.now) band.now held.new result }
+{
+    let context = RenderContext {
+        rt,
+        alloc,
+        tiles: groups.tiles,
+        sums: groups.sums,
+    };
+    let job = image.job(resolved, plan);
+    match render_band(&context, passes, &job, band) {
+        Ok(made) => {
+            *held = made.held;
+            Ok(made.raster)
+        }
+        Err(fault) => Err(fault),
+    }
+}
+
+/// Assembles the image that a plan is of: the band of all its rows.
 ///
 /// # Errors
 ///
@@ -161,27 +189,27 @@ pub fn assemble<
     B: Items<SumKey, SumVal, P, R> + Sync,
     P: Send,
     R: Threads + Wait + Sync,
->(context: &RenderContext<'_, A, B, R>, passes: &mut [P], job: &Job) -> Result<Made, Fault>
+>(
+    rt: &R,
+    alloc: Global,
+    groups: &ItemGroups<'_, A, B>,
+    passes: &mut [P],
+    resolved: &Resolved,
+    plan: &Plan,
+    image: &ImageRef<'_>,
+    held: &mut u64,
+) -> Result<Raster, Fault>
     requires some { 0 < length passes.old }
-    requires job { IsJob job.now }
-    requires tiles { TilesServe job.now (A.fits context.now.tiles.now) (A.means context.now.tiles.now) }
-    requires sums { SumsServe job.now (B.fits context.now.sums.now) (B.means context.now.sums.now) }
-    ensures image { IfOk result (λ m. (shows : Pictures)
-        → IsShown shows job.now (A.means context.now.tiles.now) (B.means context.now.sums.now)
-        → m.raster ≡ resolved_image (named shows job.now.name) job.now.resolved) }
-    ensures sides { IfOk result (λ m. dim_of m.raster ≡ turned_dim job.now.resolved.turn job.now.resolved.size) }
-    ensures channels { IfOk result (λ m. m.raster.channels ≡ channels_in job.now.resolved.quality (channels_of job.now.shape.kind)) }
-    ensures top { IfOk result (λ m. m.raster.top ≡ top_in job.now.resolved.quality (top_of job.now.shape.depth)) }
-    ensures held { IfOk result (λ m. IsHeldFor (turned_dim job.now.resolved.turn job.now.resolved.size) (channels_of job.now.shape.kind)
-        m.held) }
-    ensures fault { IfErr result (IsPlanFault (A.means context.now.tiles.now) (A.failed context.now.tiles.now)
-        (B.means context.now.sums.now) (B.failed context.now.sums.now) job.now.plan) }
+    requires may { MayAssemble A.Items B.Items groups.now (job_of image.now resolved.now plan.now) }
+    ensures { Assembles A.Items B.Items groups.now (job_of image.now resolved.now plan.now) held.new result }
 {
     // Laws of pictures and of bands.
     whole_stays_whole();
     bands_follow();
-    match job.whole(context.alloc) {
-        Ok(band) => assemble_band(context, passes, job, &band),
+    match image.whole(alloc, resolved, plan) {
+        Ok(band) => assemble_band(
+            rt, alloc, groups, passes, resolved, plan, image, &band, held,
+        ),
         Err(_) => Err(Fault::NoMemory),
     }
 }

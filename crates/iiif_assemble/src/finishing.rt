@@ -1,6 +1,7 @@
-//! Sums made into samples, place by place: few by the calling thread, many by as many threads as there are processors.
+//! Sums made into samples, place by place: few by the calling thread, many by as many threads as there are workers.
 
-ghost use Rattle.std.specs.Prelude.{◌≡◌, ◌*◌, ◌<◌, ◌≤◌, ◌^◌, ◌↔◌, IsTrue, IfOk};
+ghost use Rattle.std.specs.Prelude.{◌≡◌, ◌*◌, ◌<◌, ◌≤◌, ◌^◌, ◌↔◌, max, IsTrue, IfOk};
+ghost use Rattle.std.specs.Int.{div_ceil};
 ghost use Rattle.std.specs.List.{AllZip};
 ghost use Rattle.iiif_pixel.specs.Depths.{values_of, depth_of};
 ghost use Rattle.iiif_pixel.specs.Geometry.{channels_of, top_of};
@@ -20,19 +21,27 @@ const FEW: usize = 1_048_576;
 /// The least sums that are worth a thread: starting one takes as long as rounding some ten thousand.
 const LEAST: usize = 65_536;
 
+/// Counts the sums that a thread rounds at least, so that of so many no more threads are at work than there are workers.
+fn run_len(count: usize, workers: usize) -> usize
+    ensures { result ≡ max (div_ceil count (max workers 1)) 65536 }
+{
+    count.div_ceil(workers.max(1)).max(LEAST)
+}
+
 /// The samples of 8 bits of sums, in their order, whoever makes them.
 fn rounded_eight<R: Threads + Sync>(
     rt: &R,
     alloc: Global,
     sums: &[u64],
     area: u64,
+    workers: usize,
 ) -> Result<Vec<u8>, NoMemory>
     requires { (0 < area) × (area ≤ 2 ^ 32) }
     ensures { IfOk result (λ v. AllZip (λ s b. b ≡ average_within area 255 s) sums.now v.items) }
 {
     let averager = Averager::new(area);
     sums.par_iter()
-        .with_min_len(LEAST)
+        .with_min_len(run_len(sums.len(), workers))
         .map(
             |s: &u64| -> u8
                 ensures { result ≡ average_within averager 255 s.now }
@@ -47,13 +56,14 @@ fn rounded_sixteen<R: Threads + Sync>(
     alloc: Global,
     sums: &[u64],
     area: u64,
+    workers: usize,
 ) -> Result<Vec<u16>, NoMemory>
     requires { (0 < area) × (area ≤ 2 ^ 32) }
     ensures { IfOk result (λ v. AllZip (λ s b. b ≡ average_within area 65535 s) sums.now v.items) }
 {
     let averager = Averager::new(area);
     sums.par_iter()
-        .with_min_len(LEAST)
+        .with_min_len(run_len(sums.len(), workers))
         .map(
             |s: &u64| -> u16
                 ensures { result ≡ average_within averager 65535 s.now }
@@ -69,6 +79,7 @@ fn rounded_all<R: Threads + Sync>(
     sums: &[u64],
     area: u64,
     depth: Depth,
+    workers: usize,
 ) -> Result<Samples, NoMemory>
     requires { (0 < area) × (area ≤ 2 ^ 32) }
     ensures values { IfOk result (λ s. AllZip (λ n b. b ≡ average_within area (top_of depth) n) sums.now (values_of s)) }
@@ -76,11 +87,11 @@ fn rounded_all<R: Threads + Sync>(
 {
     match depth {
         Depth::Eight => {
-            let samples = rounded_eight(rt, alloc, sums, area)?;
+            let samples = rounded_eight(rt, alloc, sums, area, workers)?;
             Ok(Samples::Eight(samples))
         }
         Depth::Sixteen => {
-            let samples = rounded_sixteen(rt, alloc, sums, area)?;
+            let samples = rounded_sixteen(rt, alloc, sums, area, workers)?;
             Ok(Samples::Sixteen(samples))
         }
     }
@@ -107,13 +118,14 @@ pub(crate) fn are_few(kind: Kind, dim: Dim) -> bool
     }
 }
 
-/// The samples of a depth that sums over the whole of a region make, at all their places, by several threads.
+/// The samples of a depth that sums over the whole of a region make, at all their places, by so many threads at most.
 fn finish_many<R: Threads + Sync>(
     rt: &R,
     alloc: Global,
     total: &Sums,
     region: Dim,
     depth: Depth,
+    workers: usize,
 ) -> Result<Raster, NoMemory>
     requires columns { 0 < region.w }
     requires rows { 0 < region.h }
@@ -121,17 +133,18 @@ fn finish_many<R: Threads + Sync>(
     ensures { IfOk result (λ r. r ≡ finished total.now region (top_of depth) total.now.rect) }
 {
     let area = u64::from(region.w) * u64::from(region.h);
-    let samples = rounded_all(rt, alloc, total.sums(), area, depth)?;
+    let samples = rounded_all(rt, alloc, total.sums(), area, depth, workers)?;
     Ok(Raster::from_samples(total.rect().dim(), total.kind(), samples))
 }
 
-/// The samples of a depth that sums over the whole of a region make, at all their places.
+/// The samples of a depth that sums over the whole of a region make, at all their places: many by so many threads at most.
 pub(crate) fn finish_all<R: Threads + Sync>(
     rt: &R,
     alloc: Global,
     total: &Sums,
     region: Dim,
     depth: Depth,
+    workers: usize,
 ) -> Result<Raster, NoMemory>
     requires columns { 0 < region.w }
     requires rows { 0 < region.h }
@@ -139,7 +152,7 @@ pub(crate) fn finish_all<R: Threads + Sync>(
     ensures { IfOk result (λ r. r ≡ finished total.now region (top_of depth) total.now.rect) }
 {
     if total.sums().len() > FEW {
-        return finish_many(rt, alloc, total, region, depth);
+        return finish_many(rt, alloc, total, region, depth, workers);
     }
     total.finish(region, total.rect(), depth)
 }

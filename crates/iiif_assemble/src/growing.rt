@@ -15,12 +15,13 @@ ghost use Rattle.iiif_keys.specs.declared.keys.TileKey.{TileKey};
 ghost use Rattle.iiif_planner.specs.Bands.{grown_places};
 ghost use Rattle.iiif_assemble.specs.Gathering.{AreValues, IsItemFault};
 ghost use Rattle.iiif_assemble.specs.Jobs.{IsJob, TilesAreMeant, TilesServe};
+ghost use Rattle.iiif_assemble.specs.Making.{lent, MakesScaled};
 ghost use Rattle.iiif_assemble.specs.Code.{count_of, tile_adds, tile_in, AreTiles, IsPictureOf, IsWithin, ListsMet, TileHasPart};
 
 use crate::context::RenderContext;
 use crate::finishing::{count_of, finish_all};
 use crate::items::Items;
-use crate::job::{Job, Made};
+use crate::job::{JobRef, Made};
 use crate::merging::count_of_sums;
 use crate::pool::gather;
 use iiif_area::Sums;
@@ -92,25 +93,20 @@ fn add_all(
 pub(crate) fn grow<A: Items<TileKey, TileVal, P, R> + Sync, B, P: Send, R: Threads + Wait + Sync>(
     context: &RenderContext<'_, A, B, R>,
     passes: &mut [P],
-    job: &Job,
+    job: &JobRef<'_>,
     keys: &[TileKey],
     items: &[usize],
     from: Rect,
 ) -> Result<Made, Fault>
     requires some { 0 < length passes.old }
-    requires job { IsJob job.now }
-    requires cover { AreTiles job.now keys.now }
-    requires serves { TilesServe job.now (A.fits context.now.tiles.now) (A.means context.now.tiles.now) }
-    requires inside { LiesIn from job.now.resolved.size }
-    requires lists { ListsMet (grown_places job.now.resolved.rect job.now.resolved.size) from keys.now items.now }
-    ensures image { IfOk result (λ m. (shows : Pictures) (p : Picture) → IsPictureOf shows job.now p
-        → TilesAreMeant shows job.now (A.means context.now.tiles.now) →
-        m.raster ≡ crop (scale (crop p job.now.resolved.rect) job.now.resolved.size) from) }
-    ensures sides { IfOk result (λ m. dim_of m.raster ≡ sides_of from) }
-    ensures channels { IfOk result (λ m. m.raster.channels ≡ channels_of job.now.shape.kind) }
-    ensures top { IfOk result (λ m. m.raster.top ≡ top_of job.now.shape.depth) }
-    ensures held { IfOk result (λ m. IsWithin (count_of m.raster) m.held) }
-    ensures fault { IfErr result (IsItemFault (A.means context.now.tiles.now) (A.failed context.now.tiles.now) keys.now items.now) }
+    requires job { IsJob (lent job.now) }
+    requires cover { AreTiles (lent job.now) keys.now }
+    requires serves { TilesServe (lent job.now) (A.fits context.now.tiles.now) (A.means context.now.tiles.now) }
+    requires inside { LiesIn from job.now.resolved.now.size }
+    requires lists { ListsMet (grown_places job.now.resolved.now.rect job.now.resolved.now.size) from keys.now items.now }
+    ensures { MakesScaled (lent job.now) (λ shows. TilesAreMeant shows (lent job.now) (A.means context.now.tiles.now))
+        (λ p. scale (crop p job.now.resolved.now.rect) job.now.resolved.now.size) from
+        (IsItemFault (A.means context.now.tiles.now) (A.failed context.now.tiles.now) keys.now items.now) result }
 {
     // Laws of sums and of pictures.
     merging_adds();
@@ -134,6 +130,7 @@ pub(crate) fn grow<A: Items<TileKey, TileVal, P, R> + Sync, B, P: Send, R: Threa
         &total,
         region.dim(),
         job.shape.depth,
+        passes.len(),
     ) {
         Ok(raster) => {
             let held = count_of_sums(&total) + count_of(&raster);

@@ -2,14 +2,14 @@
 
 ghost use Rattle.std.specs.Prelude.{◌≡◌, ◌<◌, ◌≤◌, IfOk};
 ghost use Rattle.std.specs.Int.{div_ceil};
-ghost use Rattle.iiif_pixel.specs.Geometry.{channels_of, sides_of, LiesIn};
+ghost use Rattle.iiif_pixel.specs.Geometry.{sides_of, LiesIn};
 ghost use Rattle.iiif_pixel.specs.Scaling.{whole_of};
 ghost use Rattle.iiif_pixel.specs.TurnPlaces.{turned_dim};
 ghost use Rattle.iiif_area.specs.Places.{IsScalable};
 ghost use Rattle.iiif_keys.specs.Blocks.{IsEdge};
 ghost use Rattle.iiif_planner.specs.Bands.{band_rect};
-ghost use Rattle.iiif_planner.specs.Items.{HasItems};
-ghost use Rattle.iiif_assemble.specs.Jobs.{IsBandOf, IsJob};
+ghost use Rattle.iiif_assemble.specs.Jobs.{HasPlan, IsBandOf, IsJob};
+ghost use Rattle.iiif_assemble.specs.Making.{job_of, lent};
 
 use iiif_canonical::Resolved;
 use iiif_keys::{Name, Shape};
@@ -32,9 +32,35 @@ pub struct Job {
     pub plan: Plan,
 }
 
+/// The image that a plan is of.
+#[derive(Clone, Copy)]
+pub struct ImageRef<'a> {
+    /// The name of the image.
+    pub name: &'a Name,
+    /// The side of its tiles, in places.
+    pub edge: u32,
+    /// The image's shape.
+    pub shape: Shape,
+}
+
+/// A job by its parts, which are lent.
+#[derive(Clone, Copy)]
+pub(crate) struct JobRef<'a> {
+    /// The name of the image.
+    pub name: &'a Name,
+    /// The side of its tiles, in places.
+    pub edge: u32,
+    /// The image's shape.
+    pub shape: Shape,
+    /// What the request comes to.
+    pub resolved: &'a Resolved,
+    /// Of which tiles or blocks it is made.
+    pub plan: &'a Plan,
+}
+
 /// A part of an image.
 #[derive(Drop)]
-pub struct Made {
+pub(crate) struct Made {
     /// The part.
     pub raster: Raster,
     /// How many samples and sums of the result were held at once, at most, while it was made.
@@ -62,7 +88,7 @@ impl Job {
         ensures edge { IfOk result (λ j. j.edge ≡ edge) }
         ensures shape { IfOk result (λ j. j.shape ≡ shape) }
         ensures resolved { IfOk result (λ j. j.resolved ≡ resolved) }
-        ensures plan { IfOk result (λ j. HasItems name edge shape.dim (channels_of shape.kind) room resolved j.plan) }
+        ensures plan { IfOk result (HasPlan room) }
     {
         let plan = plan(alloc, &name, &resolved, shape.dim, shape.kind, edge, room)?;
         Ok(Job {
@@ -95,22 +121,42 @@ impl Job {
         let (_w, _h) = (self.shape.dim.w, self.shape.dim.h);
         band_at(alloc, &self.resolved, &self.plan, rows, i)
     }
+}
 
-    /// The band of all rows. The only error is lack of memory.
-    pub fn whole(&self, alloc: Global) -> Result<Band, NoMemory>
-        requires { IsJob self.now }
-        ensures rect { IfOk result (λ b. b.rect ≡ whole_of (turned_dim self.now.resolved.turn self.now.resolved.size)) }
-        ensures band { IfOk result (IsBandOf self.now) }
+impl<'a> ImageRef<'a> {
+    /// Returns the job of the image, of what is asked for, and of the plan of it.
+    pub(crate) fn job(&self, resolved: &'a Resolved, plan: &'a Plan) -> JobRef<'a>
+        ensures { lent result ≡ job_of self.now resolved.now plan.now }
+    {
+        JobRef {
+            name: self.name,
+            edge: self.edge,
+            shape: self.shape,
+            resolved,
+            plan,
+        }
+    }
+
+    /// Returns the band of all rows of what is asked for. The only error is lack of memory.
+    pub(crate) fn whole(
+        &self,
+        alloc: Global,
+        resolved: &Resolved,
+        plan: &Plan,
+    ) -> Result<Band, NoMemory>
+        requires { IsJob (job_of self.now resolved.now plan.now) }
+        ensures rect { IfOk result (λ b. b.rect ≡ whole_of (turned_dim resolved.now.turn resolved.now.size)) }
+        ensures band { IfOk result (IsBandOf (job_of self.now resolved.now plan.now)) }
     {
         // Read, so that the image's sides are known to fit.
         let (_w, _h) = (self.shape.dim.w, self.shape.dim.h);
-        let dim = self.resolved.size.turned(self.resolved.turn);
+        let dim = resolved.size.turned(resolved.turn);
         let rect = Rect {
             x: 0,
             y: 0,
             w: dim.w,
             h: dim.h,
         };
-        band_in(alloc, &self.resolved, &self.plan, rect)
+        band_in(alloc, resolved, plan, rect)
     }
 }

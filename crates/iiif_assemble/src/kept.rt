@@ -4,7 +4,7 @@ ghost use Rattle.std.specs.Prelude.{◌≡◌, ◌<◌, ◌≤◌, ◌⊎◌, Al
 ghost use Rattle.std.specs.Arc.{arc_value};
 ghost use Rattle.iiif_assemble.specs.Faults.{IsSumsFault};
 ghost use Rattle.iiif_assemble.specs.Gathering.{IsItemFault};
-ghost use Rattle.iiif_assemble.specs.Kept.{AreKept, AreOfItems, AreOneEach, HasAll, IsKeptToo, IsOfItems, KeepsFew};
+ghost use Rattle.iiif_assemble.specs.Kept.{AreKept, AreOfItems, AreOneEach, HasAll, IsKeptToo, IsOfItems, KeepsFew, kept_len};
 ghost use Rattle.iiif_assemble.specs.Opening.{AreValuesOf, IsFaultOf};
 ghost use Rattle.iiif_assemble.specs.Jobs.{IsBandOf, IsJob, SumsServe};
 
@@ -195,6 +195,18 @@ fn gather_kept<A, B: Items<SumKey, SumVal, P, R> + Sync, P: Send, R: Threads + W
         keep(&mut asked, &keys[items[n]], &values[n])?;
     }
     Ok(asked)
+}
+
+/// Counts the sums that are kept. The count stops at the greatest that its type holds.
+#[tactic(auto, using(std::proofs::lemmas::List::Sums::sum_by_more))]
+pub fn count_kept(kept: &[KeptSum]) -> u64
+    ensures { result ≡ kept_len kept.now }
+{
+    let mut count = 0u64;
+    for sum in kept {
+        count = count.saturating_add(sum.value.sums.sums().len() as u64);
+    }
+    count
 }
 
 /// Of how many blocks of a band the sums are kept at most. A band of more is so wide that its rows take longer than its blocks.

@@ -15,12 +15,13 @@ mod merging;
 pub mod opened;
 mod parts;
 mod pasting;
-mod pool;
+pub mod pool;
 
 pub use band::{assemble, assemble_band};
-pub use context::RenderContext;
+pub use context::{ItemGroups, RenderContext};
 pub use items::Items;
-pub use job::{Job, Made};
-pub use kept::{KeptSum, WithKept, keep_band};
+pub use job::{ImageRef, Job};
+pub use kept::{KeptSum, WithKept, count_kept, keep_band};
 pub use lone::lone_tile;
 pub use opened::Opened;
+pub use pool::gather;

@@ -54,6 +54,7 @@ pub fn lone_tile<A: Items<TileKey, TileVal, P, R> + Sync, P: Send, R: Threads + 
     requires rows { 0 < rows }
     requires tiles { TilesServe job.now (A.fits tiles.now) (A.means tiles.now) }
     ensures image { IfOk result (λ found. IfSome found (λ v. IsTileImage job.now (A.means tiles.now) (tile_in (arc_value v)))) }
+    ensures itself { IfOk result (λ found. IfSome found (λ v. (k : TileKey) × IsCopyOf job.now.plan k × IsTileItself job.now k)) }
     ensures only { IfOk result (λ found. IsNone found → (k : TileKey) → IsCopyOf job.now.plan k → IsTileItself job.now k → ⊥) }
     ensures fault { IfErr result (IsFirstFault job.now (A.means tiles.now) (A.failed tiles.now) rows) }
 {

@@ -15,12 +15,13 @@ ghost use Rattle.iiif_keys.specs.declared.values.SumVal.{SumVal};
 ghost use Rattle.iiif_planner.specs.Bands.{block_places};
 ghost use Rattle.iiif_assemble.specs.Gathering.{IsItemFault};
 ghost use Rattle.iiif_assemble.specs.Jobs.{IsJob, SumsAreMeant, SumsServe};
+ghost use Rattle.iiif_assemble.specs.Making.{lent, MakesScaled};
 ghost use Rattle.iiif_assemble.specs.Code.{count_of, sums_in, total_of, AreBlocks, IsPictureOf, IsWithin, ListsMet};
 
 use crate::context::RenderContext;
 use crate::finishing::{are_few, count_of, finish_all};
 use crate::items::Items;
-use crate::job::{Job, Made};
+use crate::job::{JobRef, Made};
 use crate::pool::gather;
 use iiif_area::laws::merging_adds;
 use iiif_area::{Sums, is_inside};
@@ -43,14 +44,15 @@ pub(crate) fn count_of_sums(total: &Sums) -> u64
 fn made_of_all<R: Threads + Sync>(
     rt: &R,
     alloc: Global,
-    job: &Job,
+    job: &JobRef<'_>,
     values: &[Arc<SumVal>],
     from: Rect,
+    workers: usize,
 ) -> Result<Made, Fault>
-    requires job { IsJob job.now }
+    requires job { IsJob (lent job.now) }
     requires channels { All (λ v. (sums_in (arc_value v)).channels ≡ channels_of job.now.shape.kind) values.now }
     ensures image { IfOk result (λ m. m.raster ≡ finished (total_of from (channels_of job.now.shape.kind) (map arc_value values.now))
-        (sides_of job.now.resolved.rect) (top_of job.now.shape.depth) from) }
+        (sides_of job.now.resolved.now.rect) (top_of job.now.shape.depth) from) }
     ensures channels { IfOk result (λ m. m.raster.channels ≡ channels_of job.now.shape.kind) }
     ensures held { IfOk result (λ m. IsWithin (count_of m.raster) m.held) }
     ensures fault { IfErr result (λ f. f ≡ Fault.NoMemory) }
@@ -59,7 +61,14 @@ fn made_of_all<R: Threads + Sync>(
         return Err(Fault::NoMemory);
     };
     add_sums(&mut total, values);
-    match finish_all(rt, alloc, &total, job.resolved.rect.dim(), job.shape.depth) {
+    match finish_all(
+        rt,
+        alloc,
+        &total,
+        job.resolved.rect.dim(),
+        job.shape.depth,
+        workers,
+    ) {
         Ok(raster) => {
             let held = count_of_sums(&total) + count_of(&raster);
             Ok(Made { raster, held })
@@ -69,11 +78,11 @@ fn made_of_all<R: Threads + Sync>(
 }
 
 /// The samples in `from` that the sums of one value make. Nothing is held but these samples.
-fn made_of_one(job: &Job, value: &Arc<SumVal>, from: Rect) -> Result<Made, Fault>
-    requires job { IsJob job.now }
+fn made_of_one(job: &JobRef<'_>, value: &Arc<SumVal>, from: Rect) -> Result<Made, Fault>
+    requires job { IsJob (lent job.now) }
     requires inside { IsInside from (sums_in (arc_value value.now)).rect }
     ensures image { IfOk result (λ m. m.raster ≡ finished (sums_in (arc_value value.now))
-        (sides_of job.now.resolved.rect) (top_of job.now.shape.depth) from) }
+        (sides_of job.now.resolved.now.rect) (top_of job.now.shape.depth) from) }
     ensures held { IfOk result (λ m. m.held ≡ count_of m.raster) }
     ensures fault { IfErr result (λ f. f ≡ Fault.NoMemory) }
 {
@@ -110,21 +119,22 @@ fn lone(values: &[Arc<SumVal>], from: Rect) -> Option<&Arc<SumVal>>
 fn made_of<R: Threads + Sync>(
     rt: &R,
     alloc: Global,
-    job: &Job,
+    job: &JobRef<'_>,
     values: &[Arc<SumVal>],
     from: Rect,
+    workers: usize,
 ) -> Result<Made, Fault>
-    requires job { IsJob job.now }
+    requires job { IsJob (lent job.now) }
     requires channels { All (λ v. (sums_in (arc_value v)).channels ≡ channels_of job.now.shape.kind) values.now }
     ensures image { IfOk result (λ m. m.raster ≡ finished (total_of from (channels_of job.now.shape.kind) (map arc_value values.now))
-        (sides_of job.now.resolved.rect) (top_of job.now.shape.depth) from) }
+        (sides_of job.now.resolved.now.rect) (top_of job.now.shape.depth) from) }
     ensures channels { IfOk result (λ m. m.raster.channels ≡ channels_of job.now.shape.kind) }
     ensures held { IfOk result (λ m. IsWithin (count_of m.raster) m.held) }
     ensures fault { IfErr result (λ f. f ≡ Fault.NoMemory) }
 {
     match lone(values, from) {
         Some(value) => made_of_one(job, value, from),
-        None => made_of_all(rt, alloc, job, values, from),
+        None => made_of_all(rt, alloc, job, values, from, workers),
     }
 }
 
@@ -139,29 +149,24 @@ pub(crate) fn merge_sums<
 >(
     context: &RenderContext<'_, A, B, R>,
     passes: &mut [P],
-    job: &Job,
+    job: &JobRef<'_>,
     keys: &[SumKey],
     items: &[usize],
     from: Rect,
 ) -> Result<Made, Fault>
     requires some { 0 < length passes.old }
-    requires job { IsJob job.now }
-    requires cover { AreBlocks job.now keys.now }
-    requires serves { SumsServe job.now (B.fits context.now.sums.now) (B.means context.now.sums.now) }
-    requires inside { LiesIn from job.now.resolved.size }
+    requires job { IsJob (lent job.now) }
+    requires cover { AreBlocks (lent job.now) keys.now }
+    requires serves { SumsServe (lent job.now) (B.fits context.now.sums.now) (B.means context.now.sums.now) }
+    requires inside { LiesIn from job.now.resolved.now.size }
     requires lists { ListsMet block_places from keys.now items.now }
-    ensures image { IfOk result (λ m. (shows : Pictures) (p : Picture) → IsPictureOf shows job.now p
-        → SumsAreMeant shows job.now (B.means context.now.sums.now) →
-        m.raster ≡ crop (scale (crop p job.now.resolved.rect) job.now.resolved.size) from) }
-    ensures sides { IfOk result (λ m. dim_of m.raster ≡ sides_of from) }
-    ensures channels { IfOk result (λ m. m.raster.channels ≡ channels_of job.now.shape.kind) }
-    ensures top { IfOk result (λ m. m.raster.top ≡ top_of job.now.shape.depth) }
-    ensures held { IfOk result (λ m. IsWithin (count_of m.raster) m.held) }
-    ensures fault { IfErr result (IsItemFault (B.means context.now.sums.now) (B.failed context.now.sums.now) keys.now items.now) }
+    ensures { MakesScaled (lent job.now) (λ shows. SumsAreMeant shows (lent job.now) (B.means context.now.sums.now))
+        (λ p. scale (crop p job.now.resolved.now.rect) job.now.resolved.now.size) from
+        (IsItemFault (B.means context.now.sums.now) (B.failed context.now.sums.now) keys.now items.now) result }
 {
     // Laws of sums and of pictures.
     merging_adds();
     whole_stays_whole();
     let values = gather(context.rt, context.alloc, context.sums, passes, keys, items)?;
-    made_of(context.rt, context.alloc, job, &values, from)
+    made_of(context.rt, context.alloc, job, &values, from, passes.len())
 }

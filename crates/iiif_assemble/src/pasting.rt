@@ -14,12 +14,13 @@ ghost use Rattle.iiif_keys.specs.declared.keys.TileKey.{TileKey};
 ghost use Rattle.iiif_planner.specs.Bands.{tile_places};
 ghost use Rattle.iiif_assemble.specs.Gathering.{AreValues, IsItemFault};
 ghost use Rattle.iiif_assemble.specs.Jobs.{IsJob, TilesAreMeant, TilesServe};
+ghost use Rattle.iiif_assemble.specs.Making.{lent, MakesScaled};
 ghost use Rattle.iiif_assemble.specs.Code.{count_of, tile_in, AreTiles, Copies, HasCopied, IsPictureOf, IsWithin, ListsMet};
 
 use crate::context::RenderContext;
 use crate::finishing::count_of;
 use crate::items::Items;
-use crate::job::{Job, Made};
+use crate::job::{JobRef, Made};
 use crate::pool::gather;
 use iiif_area::{corner_of, is_inside, meets, part_of};
 use iiif_keys::{Fault, Shape, TileKey, TileVal};
@@ -161,24 +162,20 @@ fn picture_of(
 pub(crate) fn paste<A: Items<TileKey, TileVal, P, R> + Sync, B, P: Send, R: Threads + Wait + Sync>(
     context: &RenderContext<'_, A, B, R>,
     passes: &mut [P],
-    job: &Job,
+    job: &JobRef<'_>,
     keys: &[TileKey],
     items: &[usize],
     from: Rect,
 ) -> Result<Made, Fault>
     requires some { 0 < length passes.old }
-    requires job { IsJob job.now }
-    requires cover { AreTiles job.now keys.now }
-    requires serves { TilesServe job.now (A.fits context.now.tiles.now) (A.means context.now.tiles.now) }
-    requires inside { LiesIn from (sides_of job.now.resolved.rect) }
-    requires lists { ListsMet (tile_places job.now.resolved.rect) from keys.now items.now }
-    ensures image { IfOk result (λ m. (shows : Pictures) (p : Picture) → IsPictureOf shows job.now p
-        → TilesAreMeant shows job.now (A.means context.now.tiles.now) → m.raster ≡ crop (crop p job.now.resolved.rect) from) }
-    ensures sides { IfOk result (λ m. dim_of m.raster ≡ sides_of from) }
-    ensures channels { IfOk result (λ m. m.raster.channels ≡ channels_of job.now.shape.kind) }
-    ensures top { IfOk result (λ m. m.raster.top ≡ top_of job.now.shape.depth) }
-    ensures held { IfOk result (λ m. IsWithin (count_of m.raster) m.held) }
-    ensures fault { IfErr result (IsItemFault (A.means context.now.tiles.now) (A.failed context.now.tiles.now) keys.now items.now) }
+    requires job { IsJob (lent job.now) }
+    requires cover { AreTiles (lent job.now) keys.now }
+    requires serves { TilesServe (lent job.now) (A.fits context.now.tiles.now) (A.means context.now.tiles.now) }
+    requires inside { LiesIn from (sides_of job.now.resolved.now.rect) }
+    requires lists { ListsMet (tile_places job.now.resolved.now.rect) from keys.now items.now }
+    ensures { MakesScaled (lent job.now) (λ shows. TilesAreMeant shows (lent job.now) (A.means context.now.tiles.now))
+        (λ p. crop p job.now.resolved.now.rect) from
+        (IsItemFault (A.means context.now.tiles.now) (A.failed context.now.tiles.now) keys.now items.now) result }
 {
     // Laws of pictures and of crops.
     whole_stays_whole();

@@ -256,7 +256,7 @@ fn gather_by_crew<
 /// # Errors
 ///
 /// The fault of the first item that failed, whichever worker met one first; or `NoMemory`.
-pub(crate) fn gather<
+pub fn gather<
     G: Items<K, V, P, R> + Sync,
     K: Sync,
     V: Drop + Send + Sync,

@@ -1,9 +1,12 @@
 -- What is sent of an image that is a tile as it stands.
 use Rattle.std.proofs.Common.{◌≡◌, ℕ, ◌+◌, ◌-◌, ◌*◌, ◌<◌, min, List, ◌++◌, length, inl, inr, ap, ◌∙◌, arith, append_assoc, Option}
-use Rattle.std.proofs.Common.{length-append}
+use Rattle.std.proofs.Common.{◌^◌, ◌≤◌, ◌⊎◌, ⊎_elim, length-append, refl, subst, sym}
+use Rattle.std.proofs.Math.Nat.{mul-le-mul_right}
 use Rattle.iiif_pixel.specs.Geometry.{channels_of}
 use Rattle.iiif_pixel.specs.Picture.{Picture, dim_of}
 use Rattle.iiif_pixel.specs.declared.geometry.Dim.{Dim}
+use Rattle.iiif_pixel.specs.declared.geometry.Quality.{Quality}
+use Rattle.iiif_pixel.specs.declared.geometry.Quality.TheVariants as quality
 use Rattle.iiif_pixel.specs.declared.geometry.Rect.{Rect}
 use Rattle.iiif_keys.specs.Names.{named, IsSource, Pictures}
 use Rattle.iiif_keys.specs.Shapes.{HasPicture}
@@ -113,6 +116,25 @@ tile_fails contents fails j tile_means tile_failed sum_means sum_failed kind row
 -- what is held of a picture that is lent counts as its first band
 pub held_itself : (d : Dim) (rows channels held : ℕ) → held ≡ min rows d.h * d.w * channels → IsHeldInBands d rows channels held
 held_itself d rows channels held is = record { band = omega (arith, is); twice = omega (arith, is) }
+
+-- how many samples a tile has that is an image as it stands
+pub all_samples : (p : Picture) (d : Dim) (n : ℕ) (q : Quality) (count : ℕ) → count ≡ p.width * p.height * p.channels → dim_of p ≡ d →
+    p.channels ≡ channels_in q n → (q ≡ quality.Default) ⊎ (q ≡ quality.Color) → count ≡ d.w * d.h * n
+all_samples p d n q count is sides channels keeps =
+    let same : channels_in q n ≡ n = ⊎_elim
+    (λ (e : q ≡ quality.Default). subst (λ (r : Quality). channels_in r n ≡ n) (sym e) refl)
+    (λ (e : q ≡ quality.Color). subst (λ (r : Quality). channels_in r n ≡ n) (sym e) refl) keeps in
+    is ∙ ap (λ (e : Dim). e.w * e.h * p.channels) sides ∙ ap (λ (m : ℕ). d.w * d.h * m) (channels ∙ same)
+
+-- a band of it has no more
+pub held_fits : (rows : ℕ) (d : Dim) (n a b c count : ℕ) → a ≡ min rows d.h → b ≡ d.w → c ≡ n → count ≡ d.w * d.h * n → count < 2 ^ 63 →
+    a * b * c < 2 ^ 64
+held_fits rows d n a b c count high wide samples is small =
+    let narrow : min rows d.h * (d.w * n) ≤ d.h * (d.w * n) = mul-le-mul_right (d.w * n) (omega arith) in
+    let all : d.w * d.h * n ≡ d.h * (d.w * n) = omega arith in
+    let own : min rows d.h * d.w * n ≡ min rows d.h * (d.w * n) = omega arith in
+    let here : a * b * c ≡ min rows d.h * d.w * n = rw (high, wide, samples) refl in
+    omega (arith, here, own, narrow, all, is, small)
 
 -- and what is buffered of it is what stands before its rows
 pub buffered_itself : (s : Sending) (d : Delivered) (a b : ℕ) → d.buffered ≡ a + b → a ≡ length s.start.now →

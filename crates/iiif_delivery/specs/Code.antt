@@ -1,6 +1,6 @@
 -- Words of private functions.
 use Rattle.std.specs.Prelude.{◌≡◌, ℕ, ◌+◌, ◌-◌, ◌*◌, ◌^◌, ◌<◌, ◌≤◌, ◌⊎◌, min, List, ◌++◌, Option, Result, length, nat_lt, if◌then◌else◌}
-use Rattle.std.specs.Prelude.{IfErr, IfOk, IfSome, IsNone, OnErr}
+use Rattle.std.specs.Prelude.{IfErr, IfOk, IfSome, IsNone, OnErr, OnOk, []}
 use Rattle.std.specs.Io.KnownBytes.{Appends}
 use Rattle.iiif_io.specs.Sending.{WasCut}
 use Rattle.iiif_pixel.specs.Geometry.{channels_of, sides_of, top_of}
@@ -21,7 +21,7 @@ use Rattle.iiif_planner.specs.Bands.{band_rect}
 use Rattle.iiif_planner.specs.declared.banding.Band.{Band}
 use Rattle.iiif_assemble.specs.Faults.{IsBandFault}
 use Rattle.iiif_assemble.specs.Jobs.{channels_in, top_in, IsBandOf, IsHeldFor, IsShown}
-use Rattle.iiif_assemble.specs.Kept.{AreFew, AreKept}
+use Rattle.iiif_assemble.specs.Kept.{kept_len, AreFew, AreKept, KeepsOwn}
 use Rattle.iiif_assemble.specs.Lone.{IsFirstFault, IsTileImage}
 use Rattle.iiif_assemble.specs.declared.items.Items as items
 use Rattle.iiif_assemble.specs.declared.job.Job.{Job}
@@ -32,11 +32,11 @@ use Rattle.iiif_tiff_write.specs.File.{file, file_len, head_of, row_len, strip}
 use Rattle.iiif_tiff_write.specs.Laws.{StripOfAllRows, StripOfMoreRows, StripOfNoRows}
 use Rattle.iiif_tiff_write.specs.OutKind.{out_depth, samples_per_pixel}
 use Rattle.iiif_tiff_write.specs.declared.kind.OutKind.{OutKind}
-use Rattle.iiif_tiff_write.specs.declared.kind.OutKind.TheVariants.{Gray, Rgb}
-use Rattle.iiif_delivery.specs.Delivery.{result_dim, IsBufferedIn, IsHeldIn, IsImageFor}
+use Rattle.iiif_delivery.specs.Delivery.{result_dim, IsBufferedIn, IsEight, IsHeldIn, IsImageFor, IsTile, KeepsNone, NeedsBands}
 use Rattle.iiif_delivery.specs.declared.delivery.Delivered.{Delivered}
 use Rattle.iiif_delivery.specs.declared.delivery.Stopped.{Stopped}
 use Rattle.iiif_delivery.specs.declared.delivery.Stopped.TheVariants.{Writer, Load}
+use Rattle.iiif_delivery.specs.declared.rows.BandCounts.{BandCounts}
 use Rattle.iiif_delivery.specs.declared.rows.Unmade.{Unmade}
 use Rattle.iiif_delivery.specs.declared.rows.Unmade.TheVariants.{Disconnected, Faulted}
 use Rattle.iiif_delivery.specs.declared.sending.Sending.{Sending}
@@ -104,6 +104,15 @@ pub record HasBuffered (j : Job) (kind : OutKind) (front rows : ℕ) (text : Lis
   pub least : 0 < y → front ≤ buffered
   pub most : buffered ≤ 65536 + (front + row_len kind (result_dim j).w * min rows (result_dim j).h)
 
+-- So many sums were kept at once while the first y rows of a job's image were made, and these are kept still.
+pub record HasKept (j : Job) (means : SumKey → SumVal → Type 0) (rows : ℕ) (sums : List KeptSum) (kept y : ℕ) : Type 0 where
+  pub before : y ≡ 0 → sums ≡ []
+  pub first : 0 < y → (b : Band) × (b.rect ≡ band_rect (result_dim j) rows 0) × IsBandOf j b
+      × ((those : List KeptSum) × AreKept means those × KeepsOwn j.plan b.items.items [] those × (kept_len those ≤ kept))
+  pub most : (those : List KeptSum) × AreKept means those × AreFew those × (kept ≡ kept_len those)
+  pub none : KeepsNone j.plan kept
+  pub still : KeepsNone j.plan (length sums)
+
 -- Why a text wasn't sent whole: the writer failed within it; or memory ran out, and nothing was written.
 abbrev pub IsSendingOf : {W : Type 0} → (W → Option (List ℕ)) → (W → W → Type 0) → List ℕ → W → W → Stopped → Type 0
 IsSendingOf contents fails text old new (Writer n) = WasCut contents fails old new text n
@@ -126,7 +135,7 @@ TileStops contents fails j means failed kind rows start old new (Load n f) = (n 
 
 -- A picture of 8 bits, as a file of this kind has it, whose length fits.
 pub record IsInBytes (kind : OutKind) (p : Picture) : Type 0 where
-  pub kind_is : (kind ≡ Gray) ⊎ (kind ≡ Rgb)
+  pub kind_is : IsEight kind
   pub channels : p.channels ≡ samples_per_pixel kind
   pub depth : p.top ≡ top_of (out_depth kind)
   pub len : file_len kind (dim_of p) < 2 ^ 32
@@ -142,10 +151,13 @@ module _ {A P R O : Type 0} (tile : items.Ghosts A TileKey TileVal P R O) (tiles
   pub record SendsTile {W : Type 0} (contents : W → Option (List ℕ)) (fails : W → W → Type 0) (old new : W)
       (result : Option (Result Delivered Stopped)) : Type 0 where
     pub none : IsNone result → new ≡ old
+    pub bands : IsNone result → NeedsBands s
     pub whole : IfSome result (λ r. IfOk r (λ d. (image : Picture) × IsTileImage s.job.now (tile.means tiles) image
         × Appends (contents old) (contents new) (s.start.now ++ file image s.kind) ×
         (d.bytes ≡ length (s.start.now ++ file image s.kind))))
     pub held : IfSome result (λ r. IfOk r (IsHeldIn s))
+    pub kept : IfSome result (λ r. IfOk r (λ d. ((k : TileKey) × IsTile s.job.now k) ×
+        (d.kept ≡ (result_dim s.job.now).w * (result_dim s.job.now).h * channels_of s.job.now.shape.kind)))
     pub buffered : IfSome result (λ r. IfOk r (IsBufferedIn s))
     pub stopped : IfSome result (λ r. IfErr r
         (TileStops contents fails s.job.now (tile.means tiles) (tile.failed tiles) s.kind s.rows s.start.now old new))
@@ -157,29 +169,35 @@ IsUnmadeFor fails out P (Faulted f) = P f
 
 module _ {A B R P O U : Type 0} (tile : items.Ghosts A TileKey TileVal P R O) (sum : items.Ghosts B SumKey SumVal P R U)
     (context : RenderContext A B R) (s : Sending) where
-  -- The rows of a band were appended to a text, and so much was held; or why not. What is kept stays values of its keys, and few.
-  pub record PutsBand (b : Band) (sums : List KeptSum) (old new : List ℕ) (result : Result ℕ Fault) : Type 0 where
+  -- The rows of a band were appended to a text, and so much was held and is kept; or why not. What is kept, where others were before, stays
+  -- values of its keys, and few.
+  pub record PutsBand (b : Band) (before sums : List KeptSum) (old new : List ℕ) (result : Result BandCounts Fault) : Type 0 where
     pub kept : AreKept (sum.means context.sums.now) sums
     pub few : AreFew sums
-    pub rows : IfOk result (λ held. (p : Picture) ×
+    pub own : OnOk result (KeepsOwn s.job.now.plan b.items.items before sums)
+    pub rows : OnOk result ((p : Picture) ×
         IsBandFor s.job.now (tile.means context.tiles.now) (sum.means context.sums.now) b.rect p × (new ≡ old ++ strip s.kind p))
     pub none : OnErr result (new ≡ old)
-    pub held : IfOk result (IsHeldFor (sides_of b.rect) (channels_of s.job.now.shape.kind))
+    pub held : IfOk result (λ n. IsHeldFor (sides_of b.rect) (channels_of s.job.now.shape.kind) n.held)
+    pub count : IfOk result (λ n. n.kept ≡ kept_len sums)
     pub fault : IfErr result (λ f. (f ≡ fault.NoMemory) ⊎
         IsBandFault (tile.means context.tiles.now) (tile.failed context.tiles.now) (sum.means context.sums.now)
         (sum.failed context.sums.now) s.job.now.plan b.items.items f)
 
-  -- Band i was made and its rows appended to a text, and so much was held; or why not: the client had disconnected, memory ran out, or the
-  -- first of the band's items that failed. What is kept stays values of its keys, and few.
-  pub record MakesBand {W : Type 0} (fails : W → W → Type 0) (i : ℕ) (sums : List KeptSum) (out : W) (old new : List ℕ)
-      (result : Result ℕ Unmade) : Type 0 where
+  -- Band i was made and its rows appended to a text, and so much was held and is kept; or why not: the client had disconnected, memory ran
+  -- out, or the first of the band's items that failed. What is kept, where others were before, stays values of its keys, and few.
+  pub record MakesBand {W : Type 0} (fails : W → W → Type 0) (i : ℕ) (before sums : List KeptSum) (out : W) (old new : List ℕ)
+      (result : Result BandCounts Unmade) : Type 0 where
     pub kept : AreKept (sum.means context.sums.now) sums
     pub few : AreFew sums
-    pub rows : IfOk result (λ held. (p : Picture) ×
+    pub own : OnOk result ((b : Band) × (b.rect ≡ band_rect (result_dim s.job.now) s.rows i) × IsBandOf s.job.now b ×
+        KeepsOwn s.job.now.plan b.items.items before sums)
+    pub rows : OnOk result ((p : Picture) ×
         IsBandFor s.job.now (tile.means context.tiles.now) (sum.means context.sums.now) (band_rect (result_dim s.job.now) s.rows i) p ×
         (new ≡ old ++ strip s.kind p))
     pub none : OnErr result (new ≡ old)
-    pub held : IfOk result (IsHeldFor (sides_of (band_rect (result_dim s.job.now) s.rows i)) (channels_of s.job.now.shape.kind))
+    pub held : IfOk result (λ n. IsHeldFor (sides_of (band_rect (result_dim s.job.now) s.rows i)) (channels_of s.job.now.shape.kind) n.held)
+    pub count : IfOk result (λ n. n.kept ≡ kept_len sums)
     pub why : IfErr result (IsUnmadeFor fails out (λ f. (f ≡ fault.NoMemory) ⊎
         ((b : Band) × (b.rect ≡ band_rect (result_dim s.job.now) s.rows i) × IsBandOf s.job.now b ×
         IsBandFault (tile.means context.tiles.now) (tile.failed context.tiles.now) (sum.means context.sums.now)

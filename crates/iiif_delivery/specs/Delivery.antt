@@ -1,5 +1,5 @@
 -- What is sent of an image, and what is held of it meanwhile.
-use Rattle.std.specs.Prelude.{◌≡◌, ℕ, ◌+◌, ◌-◌, ◌*◌, ◌^◌, ◌<◌, ◌≤◌, ◌⊎◌, ◌==◌, ◌++◌, min, List, Option, Result, length, take}
+use Rattle.std.specs.Prelude.{◌≡◌, ℕ, ◌+◌, ◌-◌, ◌*◌, ◌^◌, ◌<◌, ◌≤◌, ◌⊎◌, ◌==◌, ◌++◌, min, List, [], Option, Result, length, take}
 use Rattle.std.specs.Prelude.{if◌then◌else◌, IfErr, IfOk}
 use Rattle.std.specs.Io.KnownBytes.{Appends}
 use Rattle.iiif_io.specs.Sending.{WasCut}
@@ -17,15 +17,22 @@ use Rattle.iiif_keys.specs.declared.keys.SumKey.{SumKey}
 use Rattle.iiif_keys.specs.declared.keys.TileKey.{TileKey}
 use Rattle.iiif_keys.specs.declared.values.SumVal.{SumVal}
 use Rattle.iiif_keys.specs.declared.values.TileVal.{TileVal}
+use Rattle.iiif_planner.specs.Bands.{band_rect}
 use Rattle.iiif_planner.specs.declared.banding.Band.{Band}
+use Rattle.iiif_planner.specs.declared.plans.Plan.{Plan}
+use Rattle.iiif_planner.specs.declared.plans.Plan.TheVariants.{Copy, Grow, Sum}
 use Rattle.iiif_assemble.specs.Faults.{IsBandFault}
 use Rattle.iiif_assemble.specs.Jobs.{channels_in, top_in, IsBandOf, IsJob, IsShown, SumsServe, TilesServe}
+use Rattle.iiif_assemble.specs.Kept.{kept_len, AreFew, AreKept, KeepsOwn}
+use Rattle.iiif_assemble.specs.Lone.{IsCopyOf, IsTileItself}
 use Rattle.iiif_assemble.specs.declared.items.Items as items
 use Rattle.iiif_assemble.specs.declared.job.Job.{Job}
+use Rattle.iiif_assemble.specs.declared.kept.KeptSum.{KeptSum}
 use Rattle.iiif_assemble.specs.declared.context.RenderContext.{RenderContext}
 use Rattle.iiif_tiff_write.specs.File.{file, file_len, head_of, row_len}
 use Rattle.iiif_tiff_write.specs.OutKind.{out_depth, samples_per_pixel}
 use Rattle.iiif_tiff_write.specs.declared.kind.OutKind.{OutKind}
+use Rattle.iiif_tiff_write.specs.declared.kind.OutKind.TheVariants.{Gray, Rgb}
 use Rattle.iiif_delivery.specs.declared.delivery.Delivered.{Delivered}
 use Rattle.iiif_delivery.specs.declared.delivery.Stopped.{Stopped}
 use Rattle.iiif_delivery.specs.declared.delivery.Stopped.TheVariants.{Writer, Load}
@@ -49,6 +56,24 @@ pub record IsImageFor (shows : Pictures) (j : Job) (tile_means : TileKey → Til
 pub record IsHeldInBands (d : Dim) (rows channels held : ℕ) : Type 0 where
   pub band : min rows d.h * d.w * channels ≤ held
   pub twice : held ≤ 2 * (min rows d.h * d.w * channels)
+
+-- the image is this tile as it stands
+abbrev pub IsTile : Job → TileKey → Type 0
+IsTile j k = IsCopyOf j.plan k × IsTileItself j k
+
+-- no sums are kept for a plan of tiles
+abbrev pub KeepsNone : Plan → ℕ → Type 0
+KeepsNone (Copy keys) kept = kept ≡ 0
+KeepsNone (Grow keys) kept = kept ≡ 0
+KeepsNone (Sum keys) kept = Unit {0}
+
+-- Beside what was held of an image that was sent in bands of so many rows, so many sums of its blocks were kept at once, of blocks that
+-- have places of several bands: those of the first band's blocks at least; and as many as at most 64 values have that were answered.
+pub record IsKeptInBands (j : Job) (means : SumKey → SumVal → Type 0) (rows kept : ℕ) : Type 0 where
+  pub first : (b : Band) × (b.rect ≡ band_rect (result_dim j) rows 0) × IsBandOf j b
+      × ((sums : List KeptSum) × AreKept means sums × KeepsOwn j.plan b.items.items [] sums × (kept_len sums ≤ kept))
+  pub most : (sums : List KeptSum) × AreKept means sums × AreFew sums × (kept ≡ kept_len sums)
+  pub none : KeepsNone j.plan kept
 
 -- What was written of a text before its sending stopped. Where the writer failed, a strict prefix. Where a band could not be made,
 -- a strict prefix too, which is empty or has what stands before the rows.
@@ -75,9 +100,17 @@ FailsFor j tile tile_failed sum sum_failed kind rows front (Load n f) =
     × ((f ≡ fault.NoMemory) ⊎ ((b : Band) × (b.rect ≡ band_from (result_dim j) rows y) × IsBandOf j b ×
     IsBandFault tile tile_failed sum sum_failed j.plan b.items.items f))
 
+-- a file has samples of 8 bits
+abbrev pub IsEight : OutKind → Type 0
+IsEight kind = (kind ≡ Gray) ⊎ (kind ≡ Rgb)
+
 -- how many bytes stand before the rows of what is sent
 abbrev pub front_len : Sending → ℕ
 front_len s = length (s.start.now ++ head_of s.kind (result_dim s.job.now))
+
+-- the image isn't a tile of 8 bits as it stands, so it is made in bands
+abbrev pub NeedsBands : Sending → Type 0
+NeedsBands s = (k : TileKey) → IsTile s.job.now k → IsEight s.kind → ⊥
 
 -- what was held of it, of its bands
 abbrev pub IsHeldIn : Sending → Delivered → Type 0
@@ -122,11 +155,20 @@ module _ {A B R P O U : Type 0} (tile : items.Ghosts A TileKey TileVal P R O) (s
   FailsIn = FailsFor s.job.now (tile.means context.tiles.now) (tile.failed context.tiles.now) (sum.means context.sums.now)
       (sum.failed context.sums.now) s.kind s.rows (front_len s)
 
-  -- What a sending comes to: the image was sent whole, and so much was held and buffered of it; or the sending stopped within it, and why.
+  -- So much was kept beside what was held: of an image that is a tile as it stands the tile's samples; else what was kept of blocks.
+  abbrev pub IsKeptIn : Delivered → Type 0
+  IsKeptIn d =
+      (((k : TileKey) × IsTile s.job.now k) × (d.kept ≡ (result_dim s.job.now).w * (result_dim s.job.now).h *
+      channels_of s.job.now.shape.kind))
+      ⊎ (NeedsBands s × IsKeptInBands s.job.now (sum.means context.sums.now) s.rows d.kept)
+
+  -- What a sending comes to: the image was sent whole, and so much was held, kept and buffered of it; or the sending stopped within it, and
+  -- why.
   pub record Sends {W : Type 0} (contents : W → Option (List ℕ)) (fails : W → W → Type 0) (old new : W)
       (result : Result Delivered Stopped) : Type 0 where
     pub whole : IfOk result (SendsWhole contents old new)
     pub held : IfOk result (IsHeldIn s)
+    pub kept : IfOk result IsKeptIn
     pub buffered : IfOk result (IsBufferedIn s)
     pub stopped : IfErr result (StopsWithin contents fails old new)
     pub fault : IfErr result FailsIn

@@ -1,11 +1,12 @@
 //! Images, sent.
 
-ghost use Rattle.std.specs.Prelude.{◌≡◌, ◌+◌, ◌*◌, ◌<◌, ◌≤◌, ◌⊎◌, ℕ, [], ◌++◌, ◌^◌, min, IfOk, IfErr, OnOk, length};
+ghost use Rattle.std.specs.Prelude.{◌≡◌, ◌+◌, ◌*◌, ◌<◌, ◌≤◌, ◌⊎◌, ℕ, [], ◌++◌, ◌^◌, min, IfOk, IfErr, IfSome, IsNone, OnOk, length};
 ghost use Rattle.std.specs.Io.KnownBytes.{Appends};
 ghost use Rattle.iiif_io.specs.Sending.{WasCut};
 ghost use Rattle.iiif_tiff_write.specs.File.{file_len, head_of, row_len, strip_offset};
 ghost use Rattle.iiif_delivery.specs.Code.{StopsFor};
-ghost use Rattle.iiif_delivery.specs.Delivery.{FailsIn, IsBufferedIn, IsHeldIn, MaySend, Sends, SendsWhole, StopsWithin};
+ghost use Rattle.iiif_delivery.specs.Delivery.{FailsIn, IsBufferedIn, IsHeldIn, IsKeptIn, MaySend, NeedsBands, Sends, SendsWhole};
+ghost use Rattle.iiif_delivery.specs.Delivery.{StopsWithin};
 ghost use Rattle.iiif_delivery.specs.declared.delivery.Stopped.TheVariants.{Writer};
 
 use crate::admission::Admission;
@@ -28,6 +29,9 @@ pub struct Delivered {
     pub bytes: u64,
     /// How many samples and sums of the image were held at once, at most.
     pub held: u64,
+    /// How many shared values' samples and sums were kept beside these at once, at most: sums of blocks that have places of several bands,
+    /// or the samples of the tile that is the image as it stands.
+    pub kept: u64,
     /// How many bytes of the answer were buffered at once, at most.
     pub buffered: u64,
 }
@@ -106,6 +110,33 @@ fn stop<W: Outlet>(out: &mut W, text: &mut Vec<u8>, sent: u64, held: u64, fault:
     }
 }
 
+/// Sends an image that is a tile of 8 bits as it stands, as `send_image` does. None where it is no such tile; nothing was sent then.
+fn send_lone<
+    A: Items<TileKey, TileVal, P, R> + Sync,
+    B: Items<SumKey, SumVal, P, R>,
+    P: Send,
+    R: Threads + Wait + Sync,
+    W: Outlet,
+>(
+    context: &RenderContext<'_, A, B, R>,
+    passes: &mut [P],
+    sending: &Sending<'_>,
+    out: &mut W,
+) -> Option<Result<Delivered, Stopped>>
+    requires some { 0 < length passes.old }
+    requires sending { MaySend A.Items B.Items context.now sending.now }
+    ensures none { IsNone result → out.new ≡ out.old }
+    ensures bands { IsNone result → NeedsBands sending.now }
+    ensures sent { IfSome result (Sends A.Items B.Items context.now sending.now W.contents W.fails out.old out.new) }
+{
+    // Laws of pictures and of files.
+    laws_of_bands();
+    match send_tile(context, passes, sending, out) {
+        Some(result) => Some(result),
+        None => None,
+    }
+}
+
 /// Sends an image in bands, as `send_image` does where it is not a tile as it stands.
 fn send_bands<
     A: Items<TileKey, TileVal, P, R> + Sync,
@@ -121,8 +152,10 @@ fn send_bands<
 ) -> Result<Delivered, Stopped>
     requires some { 0 < length passes.old }
     requires sending { MaySend A.Items B.Items context.now sending.now }
+    requires bands { NeedsBands sending.now }
     ensures whole { IfOk result (SendsWhole A.Items B.Items context.now sending.now W.contents out.old out.new) }
     ensures held { IfOk result (IsHeldIn sending.now) }
+    ensures kept { IfOk result (IsKeptIn A.Items B.Items context.now sending.now) }
     ensures buffered { IfOk result (IsBufferedIn sending.now) }
     ensures stopped { IfErr result (StopsWithin A.Items B.Items context.now sending.now W.contents W.fails out.old out.new) }
     ensures fault { IfErr result (FailsIn A.Items B.Items context.now sending.now) }
@@ -135,6 +168,7 @@ fn send_bands<
     };
     let mut sent = 0u64;
     let mut held = 0u64;
+    let mut most_kept = 0u64;
     let mut buffered = 0u64;
     let mut kept = Vec::new(context.alloc);
     for i in 0..sending.job.band_count(sending.rows) {
@@ -143,7 +177,10 @@ fn send_bands<
             return Err(Stopped::Writer(sent + more));
         }
         match make_band(context, passes, sending, i, out, &mut kept, &mut text) {
-            Ok(most) => held = held.max(most),
+            Ok(counts) => {
+                held = held.max(counts.held);
+                most_kept = most_kept.max(counts.kept);
+            }
             Err(Unmade::Disconnected) => return Err(Stopped::Writer(sent)),
             Err(Unmade::Faulted(fault)) => return Err(stop(out, &mut text, sent, held, fault)),
         }
@@ -159,6 +196,7 @@ fn send_bands<
         Ok(bytes) => Ok(Delivered {
             bytes,
             held,
+            kept: most_kept,
             buffered,
         }),
         Err(stopped) => Err(stopped),
@@ -170,9 +208,9 @@ fn send_bands<
 /// a worker for each pass, and which of them asks for an item changes nothing.
 ///
 /// An image of 8 bits that is a tile as it stands is not made in bands: the tile's samples are its rows, and go out as they are. Then
-/// `held` counts a band of them.
+/// `held` counts a band of them, and `kept` all.
 ///
-/// Of an image that is made of blocks, the sums of those of a band are held until those of the next are asked for, of 64 at most. None is
+/// Of an image that is made of blocks, the sums of those of a band are kept until those of the next are asked for, of 64 at most. None is
 /// asked for before its band is made. Before some are, the job waits for its turn, and looks meanwhile whether who reads is still there.
 ///
 /// # Errors
@@ -194,9 +232,7 @@ pub fn send_image<
     requires sending { MaySend A.Items B.Items context.now sending.now }
     ensures { Sends A.Items B.Items context.now sending.now W.contents W.fails out.old out.new result }
 {
-    // Laws of pictures and of files.
-    laws_of_bands();
-    match send_tile(context, passes, sending, out) {
+    match send_lone(context, passes, sending, out) {
         Some(result) => result,
         None => send_bands(context, passes, sending, out),
     }

@@ -1,6 +1,6 @@
 //! Images that are a tile, sent as it stands.
 
-ghost use Rattle.std.specs.Prelude.{◌≡◌, ◌^◌, ◌<◌, ◌++◌, IfOk, length};
+ghost use Rattle.std.specs.Prelude.{◌≡◌, ◌*◌, ◌^◌, ◌<◌, ◌++◌, IfOk, length};
 ghost use Rattle.iiif_tiff_write.specs.File.{file_len, head_of};
 ghost use Rattle.iiif_delivery.specs.Code.{IsInBytes, SendsRaster, SendsTile};
 ghost use Rattle.iiif_delivery.specs.Delivery.{MaySend};
@@ -10,7 +10,7 @@ use crate::sending::Sending;
 use iiif_assemble::{Items, RenderContext, lone_tile};
 use iiif_io::{Outlet, send_both};
 use iiif_keys::{Fault, SumKey, SumVal, TileKey, TileVal};
-use iiif_pixel::{Dim, NoMemory, Raster};
+use iiif_pixel::{Dim, NoMemory, Raster, Span};
 use iiif_tiff_write::{OutKind, byte_rows, head};
 use std::alloc::Global;
 use std::sync::Wait;
@@ -49,6 +49,17 @@ fn send_raster<W: Outlet>(
     }
 }
 
+/// Counts the samples of a picture.
+fn count_samples(raster: &Raster) -> u64
+    ensures count { result ≡ raster.now.width * raster.now.height * raster.now.channels }
+    ensures small { result < 2 ^ 63 }
+{
+    match raster.samples() {
+        Span::Eight(samples) => samples.len() as u64,
+        Span::Sixteen(samples) => samples.len() as u64,
+    }
+}
+
 /// Sends the image of a job behind a text where it is a tile of 8 bits as it stands: the tile's samples are its rows in the file. None
 /// where it is no such tile; nothing was sent then.
 pub(crate) fn send_tile<
@@ -78,6 +89,7 @@ pub(crate) fn send_tile<
     };
     let raster = &tile.raster;
     let dim = raster.dim();
+    let kept = count_samples(raster);
     let held = u64::from(rows.min(dim.h)) * u64::from(dim.w) * job.shape.kind.channels() as u64;
     // The samples are no copy.
     let front = head(sending.kind, dim);
@@ -86,6 +98,7 @@ pub(crate) fn send_tile<
         Ok(bytes) => Some(Ok(Delivered {
             bytes,
             held,
+            kept,
             buffered,
         })),
         Err(stopped) => Some(Err(stopped)),

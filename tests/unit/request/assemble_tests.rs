@@ -2,7 +2,7 @@
 
 use crate::fixtures::{has_start, is_missing, is_same, is_unwanted};
 use crate::request::pictures::{Failing, QUARTER, ROOM, Shown, UPRIGHT, job, of_samples, tens};
-use iiif_assemble::{Job, Made, RenderContext, assemble, assemble_band};
+use iiif_assemble::{ImageRef, ItemGroups, Job, assemble, assemble_band};
 use iiif_planner::{Band, bands};
 use iiif_keys::Fault;
 use iiif_pixel::{Depth, Dim, Raster, Samples, Span, Turn};
@@ -18,6 +18,18 @@ fn bytes(raster: &Raster) -> &[u8] {
     }
 }
 
+/// A raster, and how many samples and sums were held at once for it.
+type Made = (Raster, u64);
+
+/// The image that a job's plan is of.
+fn image_of(job: &Job) -> ImageRef<'_> {
+    ImageRef {
+        name: &job.name,
+        edge: job.edge,
+        shape: job.shape,
+    }
+}
+
 /// The image of a job, by so many workers.
 fn image<R: Threads + Wait + Sync>(
     rt: &R,
@@ -27,13 +39,16 @@ fn image<R: Threads + Wait + Sync>(
     workers: usize,
 ) -> Result<Made, Fault> {
     let mut passes = vec![in alloc; 0u64; workers.max(1)]?;
-    let context = RenderContext {
-        rt,
-        alloc,
+    let groups = ItemGroups {
         tiles: shown,
         sums: shown,
     };
-    assemble(&context, &mut passes, job)
+    let (resolved, plan, image) = (&job.resolved, &job.plan, image_of(job));
+    let mut held = 0u64;
+    match assemble(rt, alloc, &groups, &mut passes, resolved, plan, &image, &mut held) {
+        Ok(raster) => Ok((raster, held)),
+        Err(fault) => Err(fault),
+    }
 }
 
 /// A wanted image, or its fault.
@@ -65,7 +80,7 @@ fn is_made<R: Threads + Wait + Sync>(
     wanted: Wanted,
 ) -> bool {
     match (image(rt, alloc, shown, job, workers), wanted) {
-        (Ok(made), _) => is_wanted(&made.raster, wanted),
+        (Ok(made), _) => is_wanted(&made.0, wanted),
         (Err(fault), Wanted::Fault(other)) => is_same(&fault, &other),
         (Err(fault), _) => is_unwanted(&fault),
     }
@@ -223,13 +238,16 @@ fn rows<R: Threads + Wait + Sync>(
     band: &Band,
 ) -> Result<Made, Fault> {
     let mut passes = vec![in alloc; 0u64; 1]?;
-    let context = RenderContext {
-        rt,
-        alloc,
+    let groups = ItemGroups {
         tiles: shown,
         sums: shown,
     };
-    assemble_band(&context, &mut passes, job, band)
+    let (resolved, plan, image) = (&job.resolved, &job.plan, image_of(job));
+    let mut held = 0u64;
+    match assemble_band(rt, alloc, &groups, &mut passes, resolved, plan, &image, band, &mut held) {
+        Ok(raster) => Ok((raster, held)),
+        Err(fault) => Err(fault),
+    }
 }
 
 /// Whether a band of a job's image is this row, of two of the four tiles, and 4 to 8 samples were held for it.
@@ -243,8 +261,9 @@ fn is_row<R: Threads + Wait + Sync>(
 ) -> bool {
     match rows(rt, alloc, shown, job, band) {
         Ok(made) => {
-            let held = 4 <= made.held && made.held <= 8;
-            held && is_same(&band.items.len(), &2) && is_same(&bytes(&made.raster), &row)
+            let (raster, held) = made;
+            let is_held = 4 <= held && held <= 8;
+            is_held && is_same(&band.items.len(), &2) && is_same(&bytes(&raster), &row)
         }
         Err(fault) => is_unwanted(&fault),
     }
@@ -351,7 +370,7 @@ fn is_halved<R: Threads + Wait + Sync>(
         return false;
     };
     match image(rt, alloc, shown, &job, workers) {
-        Ok(made) => is_same(&made.raster.dim(), &MANY) && are_means(made.raster.samples()),
+        Ok(made) => is_same(&made.0.dim(), &MANY) && are_means(made.0.samples()),
         Err(fault) => is_unwanted(&fault),
     }
 }

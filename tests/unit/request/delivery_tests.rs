@@ -34,14 +34,14 @@ fn sample(alloc: Global, fails: Failing) -> Option<Shown> {
     of_samples(alloc, dim, Samples::Eight(samples), fails)
 }
 
-/// The bytes of an image that was sent whole and how many samples and sums were held at most; else the bytes before its end, and the fault
-/// of a band that could not be made. Without one the writer failed.
-type End = Result<[u64; 2], (u64, Option<Fault>)>;
+/// The bytes of an image that was sent whole, how many samples and sums were held at most, and how many were kept beside these; else the
+/// bytes before its end, and the fault of a band that could not be made. Without one the writer failed.
+type End = Result<[u64; 3], (u64, Option<Fault>)>;
 
 /// The end of an image, in a form that can be printed.
 fn end_of(end: Result<Delivered, Stopped>) -> End {
     match end {
-        Ok(sent) => Ok([sent.bytes, sent.held]),
+        Ok(sent) => Ok([sent.bytes, sent.held, sent.kept]),
         Err(Stopped::Writer(count)) => Err((count, None)),
         Err(Stopped::Load(count, fault)) => Err((count, Some(fault))),
     }
@@ -141,6 +141,10 @@ fn sent<R: Threads + Wait + Sync>(
 /// The length of a file of 7 rows of 7 bytes, and of what stands before them.
 const LEN: u64 = 174 + 49;
 
+/// How many sums are kept at most. The columns of blocks have 1, 2, 2, 1, 2, 2, 1, 2, 2 and 1 columns of the result, 16 in all, and so
+/// it is with rows. The third and the fifth row of the result have a place in blocks of 5 rows, and no row has in more.
+const KEPT: u64 = 16 * 5;
+
 /// Whether so many workers send what one sends, and ask for each block once. There are 100 blocks, in rows of 10, and a band has a place in
 /// three rows at most.
 fn is_same_answer<R: Threads + Wait + Sync>(
@@ -208,6 +212,7 @@ fn each_block_is_asked_for_once_and_bands_above_a_fault_are_sent(rt: HostRuntime
     assert!(rt; alone.is_some());
     if let Some(alone) = &alone {
         assert!(rt; is_same(&(alone.bytes.len() as u64), &LEN));
+        assert!(rt; is_same(&alone.end, &Ok([LEN, 2 * 7, KEPT])));
         assert!(rt; are_same(&rt, rt.alloc(), alone));
         assert!(rt; end_above(&rt, rt.alloc(), alone));
     }
@@ -346,10 +351,11 @@ fn alone<R: Threads + Wait + Sync>(
 /// How often the tile is asked for, how the image is sent, and its rows in the file.
 type Lone = (Failing, Turn, u64, End, &'static [u8]);
 
-/// As it stands, turned, and where the tile fails. Of a band that is turned its four samples are held twice.
+/// As it stands, turned, and where the tile fails. Of a band that is turned its four samples are held twice, and of a tile as it stands all
+/// sixteen are kept.
 static LONE: [Lone; 4] = [
-    (Failing::Nothing, UPRIGHT, 1, Ok([190, 4]), &STEPS),
-    (Failing::Nothing, QUARTER, 4, Ok([190, 8]), &TURNED),
+    (Failing::Nothing, UPRIGHT, 1, Ok([190, 4, 16]), &STEPS),
+    (Failing::Nothing, QUARTER, 4, Ok([190, 8, 0]), &TURNED),
     (
         Failing::FirstRow,
         UPRIGHT,
@@ -423,7 +429,7 @@ fn is_large_sent<R: Threads + Wait + Sync>(rt: &R, alloc: Global, rows: &[u8]) -
     match large(rt, alloc, samples) {
         Some(answer) => {
             is_same(&answer.asks, &1)
-                && is_same(&answer.end, &Ok([90_174, 300]))
+                && is_same(&answer.end, &Ok([90_174, 300, 90_000]))
                 && is_same(&answer.bytes.as_slice().get(174..).unwrap_or(&[]), &rows)
         }
         None => is_missing(),

@@ -1,4 +1,4 @@
-use Rattle.std.proofs.Common.{◌∙◌, ap, sym, subst}
+use Rattle.std.proofs.Common.{rules, ◌∙◌, ap, sym, subst}
 use Rattle.std.proofs.lemmas.Result.{IfOk-weaker}
 use Rattle.iiif_pixel.specs.Geometry.{channels_of}
 use Rattle.iiif_pixel.specs.Operations.{crop}
@@ -8,24 +8,43 @@ use Rattle.iiif_planner.specs.Plans.{IsPlan}
 use Rattle.iiif_planner.specs.declared.plans.Plan.{Plan}
 use Rattle.iiif_assemble.proofs.band.scale_part.Goals as goal
 
-pub returns-in-Copy-clause-image : goal.returns-in-Copy-clause-image
-returns-in-Copy-clause-image g c =
-    let r = c.args.job.now.resolved in
-    let of_plan = subst (λ (p : Plan). IsPlan c.args.job.now.name c.args.job.now.edge c.args.job.now.shape.dim
+pub returns-in-Copy : goal.returns-in-Copy
+returns-in-Copy g c =
+    let r = c.args.job.now.resolved.now in
+    let of_plan = subst (λ (p : Plan). IsPlan c.args.job.now.name.now c.args.job.now.edge c.args.job.now.shape.dim
     (channels_of c.args.job.now.shape.kind) c.requires.job.room r p) c.in-Copy.is c.requires.job.is_plan in
-    IfOk-weaker c.paste.result _ _
-    (λ image made shows p shown tiles sums.
-    let q = crop p r.rect in
-    let whole = c.whole_stays_whole.ensures.crop p r.rect shown.whole in
-    let same = sym (c.same_sides_change_nothing.ensures q whole c.requires.job.scalable.columns c.requires.job.scalable.rows) ∙
-    ap (scale q) (sym of_plan.0) in
-    made shows p shown tiles ∙ ap (λ (s : Picture). crop s c.args.from) same)
-    c.paste.ensures.image
+    record {
+      image = IfOk-weaker c.paste.result _ _
+          (λ image made i shown.
+          let q = crop i.1 r.rect in
+          let whole = c.whole_stays_whole.ensures.crop i.1 r.rect shown.0.whole in
+          let same = sym (c.same_sides_change_nothing.ensures q whole c.requires.job.scalable.columns c.requires.job.scalable.rows) ∙
+          ap (scale q) (sym of_plan.0) in
+          made i (shown.0, shown.1.0) ∙ ap (λ (s : Picture). crop s c.args.from) same)
+          c.paste.ensures.image;
+      sides = c.paste.ensures.sides;
+      channels = c.paste.ensures.channels;
+      top = c.paste.ensures.top;
+      held = c.paste.ensures.held;
+      fault = search rules;
+    }
 
-pub returns-in-Grow-clause-image : goal.returns-in-Grow-clause-image
-returns-in-Grow-clause-image g c = IfOk-weaker c.grow.result _ _ (λ image made shows p shown tiles sums. made shows p shown tiles)
-    c.grow.ensures.image
+pub returns-in-Grow : goal.returns-in-Grow
+returns-in-Grow g c = record {
+  image = IfOk-weaker c.grow.result _ _ (λ image made i shown. made i (shown.0, shown.1.0)) c.grow.ensures.image;
+  sides = c.grow.ensures.sides;
+  channels = c.grow.ensures.channels;
+  top = c.grow.ensures.top;
+  held = c.grow.ensures.held;
+  fault = search rules;
+}
 
-pub returns-in-Sum-clause-image : goal.returns-in-Sum-clause-image
-returns-in-Sum-clause-image g c = IfOk-weaker c.merge_sums.result _ _ (λ image made shows p shown tiles sums. made shows p shown sums)
-    c.merge_sums.ensures.image
+pub returns-in-Sum : goal.returns-in-Sum
+returns-in-Sum g c = record {
+  image = IfOk-weaker c.merge_sums.result _ _ (λ image made i shown. made i (shown.0, shown.1.1)) c.merge_sums.ensures.image;
+  sides = c.merge_sums.ensures.sides;
+  channels = c.merge_sums.ensures.channels;
+  top = c.merge_sums.ensures.top;
+  held = c.merge_sums.ensures.held;
+  fault = search rules;
+}

@@ -7,8 +7,8 @@ use Rattle.iiif_planner.specs.Plans.{IsPlan, IsTileFor}
 use Rattle.iiif_planner.specs.declared.plans.Plan.{Plan}
 use Rattle.iiif_planner.specs.Bands.{tile_places, ListsItems, ReachesInto}
 use Rattle.iiif_assemble.specs.Gathering.{IsItemFault}
-use Rattle.iiif_assemble.specs.Lone.{IsTileItself, IsTilesFault}
-use Rattle.iiif_assemble.proofs.TileLemmas.{last_value, those_within, tile_image}
+use Rattle.iiif_assemble.specs.Lone.{IsCopyOf, IsTileItself, IsTilesFault}
+use Rattle.iiif_assemble.proofs.TileLemmas.{last_value, one_key, those_within, tile_image}
 use Rattle.iiif_assemble.proofs.lone.lone_tile.Goals as goal
 
 pub gather-requires-clause-within : goal.gather-requires-clause-within
@@ -46,6 +46,17 @@ returns-in-Some-clause-image g c =
     tile_image c.whole_stays_whole.ensures.crop c.same_sides_change_nothing.ensures j tm key (arc_value a) c.requires.job itself planned.0
     of_key.named
     (c.requires.tiles.shaped key (arc_value a) of_key meant) meant
+
+pub returns-in-Some-clause-itself : goal.returns-in-Some-clause-itself
+returns-in-Some-clause-itself g c =
+    let j = c.args.job.now in
+    let keys = c.deref.result.now in
+    let key = c.index.result.now in
+    let one : length keys ≡ 1 = search rules in
+    let first : get_or keys 0 key ≡ key = search rules in
+    let itself : IsTileItself j key = search rules in
+    let are = sym c.deref.ensures.value ∙ one_key keys key one first in
+    (key, subst (λ (p : Plan). IsCopyOf p key) (sym c.in-Copy.is) are, itself)
 
 pub returns-clause-fault : goal.returns-clause-fault
 returns-clause-fault g c =

@@ -14,7 +14,7 @@ use Rattle.iiif_assemble.proofs.merging.made_of.Goals as goal
 pub returns-in-Some-clause-image : goal.returns-in-Some-clause-image
 returns-in-Some-clause-image g c =
     let n = channels_of c.args.job.now.shape.kind in
-    let region = sides_of c.args.job.now.resolved.rect in
+    let region = sides_of c.args.job.now.resolved.now.rect in
     let top = top_of c.args.job.now.shape.depth in
     let v = c.in-Some.value.now in
     let P : Arc SumVal Global → Type 0 = λ a. (sums_in (arc_value a)).channels ≡ n in

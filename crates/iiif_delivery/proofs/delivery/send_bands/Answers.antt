@@ -1,16 +1,14 @@
 use Rattle.std.proofs.Common.{◌≡◌, ℕ, ◌+◌, ◌-◌, ◌*◌, ◌<◌, ◌≤◌, min, List, length, sym, ap, subst, ◌∙◌, arith, inl, inr, ⊎_elim}
 use Rattle.std.proofs.Common.{length-append, rules}
-use Rattle.std.specs.Prelude.{◌++◌, []}
+use Rattle.std.specs.Prelude.{◌++◌}
 use Rattle.std.specs.Int.{div_ceil}
 use Rattle.std.specs.Io.KnownBytes.{Appends}
 use Rattle.iiif_io.specs.Sending.{WasCut}
-use Rattle.iiif_pixel.specs.Geometry.{channels_of, sides_of}
 use Rattle.iiif_pixel.specs.declared.geometry.Dim.{Dim}
 use Rattle.iiif_pixel.specs.declared.geometry.Rect.{Rect}
 use Rattle.iiif_pixel.proofs.Parts.{same_dim}
 use Rattle.iiif_planner.proofs.Meeting.{last_met}
 use Rattle.iiif_planner.specs.Bands.{band_rect}
-use Rattle.iiif_assemble.specs.Jobs.{IsHeldFor}
 use Rattle.iiif_tiff_write.specs.File.{file, head_of, strip}
 use Rattle.iiif_delivery.specs.Delivery.{band_from, front_len, result_dim, Stops}
 use Rattle.iiif_delivery.specs.declared.delivery.Stopped.{Stopped}
@@ -19,6 +17,7 @@ use Rattle.iiif_delivery.proofs.StepLemmas.{first_rows, none_sent, band_fails, b
 use Rattle.iiif_delivery.proofs.StepLemmas.{more_rows, flushed_rows, all_sent}
 use Rattle.iiif_delivery.proofs.StepLemmas.{counted_first, counted_more, counted_flushed}
 use Rattle.iiif_delivery.proofs.StepLemmas.{buffered_done, buffered_first, buffered_more}
+use Rattle.iiif_delivery.proofs.KeptLemmas.{kept_done, kept_first, kept_more}
 use Rattle.iiif_delivery.proofs.StepLemmas.{bands_end, result_some, more_len, sent_within, counted_done}
 use Rattle.iiif_delivery.proofs.delivery.send_bands.Goals as goal
 use Rattle.iiif_delivery.proofs.delivery.send_bands.Goals.{then-len-ge-PIECE+in-Ok-flush, else-len-ge-PIECE}
@@ -46,6 +45,8 @@ loop-i-init g c =
       buffered = buffered_first j s.kind (front_len s) s.rows (min (0 * s.rows) d.h) c.in-Ok.text.items (ap length is) none;
       kept = search rules;
       few = search rules;
+      most = kept_first j (g.B.Items.means c.args.context.now.sums.now) s.rows (min (0 * s.rows) d.h) c.new-kept.result.items
+          none (search rules);
     }
 
 pub returns-in-Err-Faulted-clause-stopped : goal.returns-in-Err-Faulted-clause-stopped
@@ -123,7 +124,8 @@ flush-requires g c =
     let len = more_len j tm sm s.kind y n made.0 is_band in
     let counted = counted_more j s.kind front s.rows c.loop-i.text.items (strip s.kind made.0)
     c.make_band.new.text.items c.loop-i.sent c.loop-i.held
-    c.in-Ok-make_band.most y n y2 c.max-held.result c.loop-i.invariant.counted len c.in-Ok-make_band.ensures.held (omega (arith, above))
+    c.in-Ok-make_band.counts.held y n y2 c.max-held.result c.loop-i.invariant.counted len c.in-Ok-make_band.ensures.held
+    (omega (arith, above))
     (omega (arith, above, c.requires.sending.rows)) (λ (zero : y ≡ 0). omega (arith, zero, row))
     (omega (arith, c.max-held.ensures)) next made.2 in
     let small = c.in-Ok.text.small in
@@ -180,13 +182,18 @@ loop-i-preserved g c =
     let is_band = subst (λ (r : Rect). IsBandFor j tm sm r made.0) is made.1 in
     let len = more_len j tm sm s.kind y n made.0 is_band in
     let counted = counted_more j s.kind front s.rows c.loop-i.text.items (strip s.kind made.0) after c.loop-i.sent c.loop-i.held
-    c.in-Ok-make_band.most y n y2 c.max-held.result c.loop-i.invariant.counted len c.in-Ok-make_band.ensures.held (omega (arith, above))
+    c.in-Ok-make_band.counts.held y n y2 c.max-held.result c.loop-i.invariant.counted len c.in-Ok-make_band.ensures.held
+    (omega (arith, above))
     (omega (arith, above, c.requires.sending.rows)) (λ (zero : y ≡ 0). omega (arith, zero, row))
     (omega (arith, c.max-held.ensures)) next made.2 in
     let buffered = λ (left : List ℕ) (short : length left ≤ 65536 + front). buffered_more j s.kind front s.rows c.loop-i.text.items
     (strip s.kind made.0) after left c.loop-i.sent c.loop-i.held y n y2 c.loop-i.buffered c.max-buffered.result
     c.loop-i.invariant.counted c.loop-i.invariant.buffered len (omega (arith, above)) made.2
     (omega (arith, c.max-buffered.ensures)) short in
+    let most = kept_more j sm s.rows i c.loop-i.kept.items c.make_band.new.kept.items c.loop-i.most_kept c.in-Ok-make_band.counts.kept
+    c.max-most_kept.result y y2 c.loop-i.invariant.most c.in-Ok-make_band.ensures.own c.make_band.ensures.kept c.make_band.ensures.few
+    c.in-Ok-make_band.ensures.count c.max-most_kept.ensures (λ (zero : y ≡ 0). omega (arith, zero, row))
+    (omega (arith, next, above, c.requires.sending.rows)) in
     elim c.if-len-ge-PIECE.branch [
       | then-len-ge-PIECE+in-Ok-flush w ↦
           let none = ap (λ v. v.items) w.text-is ∙ w.in-Ok-flush.ensures.none in
@@ -209,6 +216,7 @@ loop-i-preserved g c =
             buffered = buffered c.if-len-ge-PIECE.text.items (omega (arith, empty));
             kept = c.make_band.ensures.kept;
             few = c.make_band.ensures.few;
+            most = most;
           }
       | else-len-ge-PIECE w ↦
           rw (w.out-is, w.text-is, w.sent-is) (record {
@@ -220,6 +228,7 @@ loop-i-preserved g c =
             buffered = buffered after (omega (arith, w.if-len-ge-PIECE.false));
             kept = c.make_band.ensures.kept;
             few = c.make_band.ensures.few;
+            most = most;
           })
     ]
 
@@ -266,9 +275,22 @@ returns-in-Ok-flush-2-clause-buffered g c =
     let i = c.loop-i.i in let y = min (i * s.rows) d.h in
     let past : div_ceil d.h s.rows ≤ i = omega (arith, c.loop-i-test.false, c.band_count-i-end.ensures) in
     let end = bands_end d.h s.rows i c.requires.sending.rows past in
-    buffered_done s (record { bytes = c.in-Ok-flush-2.bytes; held = c.loop-i.held; buffered = c.loop-i.buffered }) c.loop-i.text.items y
+    buffered_done s
+    (record { bytes = c.in-Ok-flush-2.bytes; held = c.loop-i.held; kept = c.loop-i.most_kept; buffered = c.loop-i.buffered })
+    c.loop-i.text.items y
     (result_some j c.requires.sending.job.scalable.result_columns c.requires.sending.job.scalable.result_rows).1
     end c.loop-i.invariant.buffered
+
+pub returns-in-Ok-flush-2-clause-kept : goal.returns-in-Ok-flush-2-clause-kept
+returns-in-Ok-flush-2-clause-kept g c =
+    let s = c.args.sending.now in let j = s.job.now in let d = result_dim j in
+    let i = c.loop-i.i in let y = min (i * s.rows) d.h in
+    let past : div_ceil d.h s.rows ≤ i = omega (arith, c.loop-i-test.false, c.band_count-i-end.ensures) in
+    let end = bands_end d.h s.rows i c.requires.sending.rows past in
+    let kept = kept_done j (g.B.Items.means c.args.context.now.sums.now) s.rows c.loop-i.kept.items c.loop-i.most_kept y
+    (result_some j c.requires.sending.job.scalable.result_columns c.requires.sending.job.scalable.result_rows).1
+    end c.loop-i.invariant.most in
+    inr (c.requires.bands, kept)
 
 pub returns-clause-stopped : goal.returns-clause-stopped
 returns-clause-stopped g c =

@@ -3,7 +3,7 @@ use Rattle.std.specs.Prelude.{◌++◌}
 use Rattle.iiif_tiff_write.specs.File.{head_of}
 use Rattle.iiif_assemble.specs.Kept.{AreFew, AreKept}
 use Rattle.iiif_delivery.specs.Delivery.{front_len, result_dim}
-use Rattle.iiif_delivery.specs.Code.{HasBuffered, HasCounted, HaveRows}
+use Rattle.iiif_delivery.specs.Code.{HasBuffered, HasCounted, HasKept, HaveRows}
 use Rattle.iiif_delivery.proofs.delivery.send_bands.Given as goal
 
 -- the bands so far
@@ -19,4 +19,5 @@ invariant-loop-i g l =
       buffered : HasBuffered j s.kind (front_len s) s.rows l.text.items l.buffered y;
       kept : AreKept (g.B.Items.means l.context.sums.now) l.kept.items;
       few : AreFew l.kept.items;
+      most : HasKept j (g.B.Items.means l.context.sums.now) s.rows l.kept.items l.most_kept y;
     }

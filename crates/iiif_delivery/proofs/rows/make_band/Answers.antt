@@ -9,9 +9,11 @@ pub returns-in_default : goal.returns-in_default
 returns-in_default g c = record {
   kept = c.requires.kept;
   few = c.requires.few;
+  own = tt;
   rows = tt;
   none = refl;
   held = tt;
+  count = tt;
   why = inl refl;
 }
 
@@ -19,9 +21,11 @@ pub returns-in-Err : goal.returns-in-Err
 returns-in-Err g c = record {
   kept = c.requires.kept;
   few = c.requires.few;
+  own = tt;
   rows = tt;
   none = refl;
   held = tt;
+  count = tt;
   why = c.in-Err.ensures.gone;
 }
 
@@ -33,10 +37,12 @@ returns-in-Ok-made g c =
     record {
       kept = c.put_band-made.ensures.kept;
       few = c.put_band-made.ensures.few;
+      own = (c.in-Ok.band, c.in-Ok.ensures.rect, c.in-Ok.ensures.band, c.in-Ok-made.ensures.own);
       rows = (made.0, subst (λ (r : Rect). IsBandFor j tm sm r made.0) c.in-Ok.ensures.rect made.1, made.2);
       none = tt;
-      held = subst (λ (r : Rect). IsHeldFor (sides_of r) (channels_of j.shape.kind) c.in-Ok-made.held) c.in-Ok.ensures.rect
-          c.in-Ok-made.ensures.held;
+      held = subst (λ (r : Rect). IsHeldFor (sides_of r) (channels_of j.shape.kind) c.in-Ok-made.counts.held)
+          c.in-Ok.ensures.rect c.in-Ok-made.ensures.held;
+      count = c.in-Ok-made.ensures.count;
       why = tt;
     }
 
@@ -44,8 +50,10 @@ pub returns : goal.returns
 returns g c = record {
   kept = c.put_band-made.ensures.kept;
   few = c.put_band-made.ensures.few;
+  own = tt;
   rows = tt;
   none = c.in-Err-made.ensures.none;
   held = tt;
+  count = tt;
   why = ⊎_elim (λ e. inl e) (λ f. inr (c.in-Ok.band, c.in-Ok.ensures.rect, c.in-Ok.ensures.band, f)) c.in-Err-made.ensures.fault;
 }

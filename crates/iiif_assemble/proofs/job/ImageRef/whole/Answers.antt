@@ -1,10 +1,10 @@
 use Rattle.std.proofs.Common.{arith}
 use Rattle.iiif_pixel.specs.Geometry.{channels_of}
-use Rattle.iiif_assemble.proofs.job.Job.whole.Goals as goal
+use Rattle.iiif_assemble.proofs.job.ImageRef.whole.Goals as goal
 
 pub band_in-requires-clause-plan : goal.band_in-requires-clause-plan
 band_in-requires-clause-plan c = record {
-  name = c.args.self.now.name;
+  name = c.args.self.now.name.now;
   edge = c.args.self.now.edge;
   image = c.args.self.now.shape.dim;
   channels = channels_of c.args.self.now.shape.kind;

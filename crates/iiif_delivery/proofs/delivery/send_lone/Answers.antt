@@ -1,10 +1,11 @@
+use Rattle.std.proofs.Common.{inl}
 use Rattle.std.proofs.lemmas.Result.{IfErr-weaker, IfOk-weaker}
 use Rattle.iiif_delivery.specs.Delivery.{front_len}
 use Rattle.iiif_delivery.proofs.TileLemmas.{image_for, tile_fails, tile_stopped}
-use Rattle.iiif_delivery.proofs.delivery.send_image.Goals as goal
+use Rattle.iiif_delivery.proofs.delivery.send_lone.Goals as goal
 
-pub returns-in-Some : goal.returns-in-Some
-returns-in-Some g c =
+pub returns-in-Some-clause-sent : goal.returns-in-Some-clause-sent
+returns-in-Some-clause-sent g c =
     let s = c.args.sending.now in
     let j = s.job.now in
     let tm = g.A.Items.means c.args.context.now.tiles.now in
@@ -17,6 +18,7 @@ returns-in-Some g c =
           (λ d sent shows has source. (sent.0, image_for shows j tm sm sent.0 has source sent.1, sent.2, sent.3))
           c.in-Some.ensures.whole;
       held = c.in-Some.ensures.held;
+      kept = IfOk-weaker c.in-Some.result _ _ (λ d kept. inl kept) c.in-Some.ensures.kept;
       buffered = c.in-Some.ensures.buffered;
       stopped = IfErr-weaker c.in-Some.result _ _
           (λ e stops.
