@@ -93,6 +93,7 @@ impl<'a, R: Opens + Wait, J: System, N, T> Measure<R> for Statistics<'a, R, J, N
             images: image_metrics(self.watcher.images),
             held: held_metrics(self.watcher.images.held),
             counts: self.watcher.tally.counts(rt),
+            kept: self.node.most_kept(rt),
         }
     }
 

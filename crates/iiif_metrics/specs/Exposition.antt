@@ -103,10 +103,12 @@ refused_family counts =
       samples = listener_samples counts;
     }
 
--- what was counted of answers, whatever their status, under names with this front
-abbrev pub server_families : List ℕ → Counts → List Family
-server_families front c =
+-- what was counted of answers, whatever their status, and what was kept beside one of them, under names with this front
+abbrev pub server_families : List ℕ → Counts → ℕ → List Family
+server_families front c kept =
     single (front ++ codes "answer_bytes_total") (codes "Bytes of answers and their heads.") Counter c.bytes
+    ∷ single (front ++ codes "answer_kept_most")
+    (codes "Samples and sums of shared values that were kept beside one answer, at most.") Gauge kept
     ∷ []
 
 -- the answers that were cut off, by cause

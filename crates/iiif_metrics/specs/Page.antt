@@ -15,7 +15,7 @@ text_of m p =
     ++ family_text (open_family m.counts.open_now)
     ++ family_text (refused_family m.counts.refused)
     ++ family_text (cut_family m.counts.cut)
-    ++ families_text (server_families (codes "iiif_") m.counts)
+    ++ families_text (server_families (codes "iiif_") m.counts m.kept)
     ++ family_text (answer_family m.counts.whole)
     ++ seconds_text p.durations
     ++ links_text p.links.items

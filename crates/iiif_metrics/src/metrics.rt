@@ -41,6 +41,8 @@ pub struct Metrics {
     pub images: ImageMetrics,
     pub held: HeldMetrics,
     pub counts: Counts,
+    /// How many samples and sums of shared values were kept beside one answer, at most.
+    pub kept: u64,
 }
 
 /// How the asks of a node ended, and whether it is asked.

@@ -211,15 +211,22 @@ fn image_rows(images: &ImageMetrics) -> [Row<'static>; 2]
     ]
 }
 
-/// What was counted of answers, whatever their status.
-fn server_rows(counts: &Counts) -> [Row<'static>; 1]
-    ensures { (front : List ℕ) → map (row_family front) result ≡ server_families front counts.now }
+/// What was counted of answers, whatever their status, and what was kept beside one of them.
+fn server_rows(counts: &Counts, kept: u64) -> [Row<'static>; 2]
+    ensures { (front : List ℕ) → map (row_family front) result ≡ server_families front counts.now kept }
 {
-    [counter(
-        "answer_bytes_total",
-        "Bytes of answers and their heads.",
-        counts.bytes,
-    )]
+    [
+        counter(
+            "answer_bytes_total",
+            "Bytes of answers and their heads.",
+            counts.bytes,
+        ),
+        gauge(
+            "answer_kept_most",
+            "Samples and sums of shared values that were kept beside one answer, at most.",
+            kept,
+        ),
+    ]
 }
 
 /// Writes the lines of samples of one family.
@@ -369,7 +376,11 @@ pub fn metrics_text(
     push_open(&mut text, &metrics.counts.open_now)?;
     push_refused(&mut text, &metrics.counts.refused)?;
     push_cut(&mut text, &metrics.counts.cut)?;
-    push_rows(&mut text, "iiif_", &server_rows(&metrics.counts))?;
+    push_rows(
+        &mut text,
+        "iiif_",
+        &server_rows(&metrics.counts, metrics.kept),
+    )?;
     push_answers(&mut text, &metrics.counts.whole)?;
     push_seconds(&mut text, &peers.durations)?;
     let mut text = text.into_bytes();

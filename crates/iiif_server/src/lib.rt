@@ -14,6 +14,7 @@ pub use watch::Watch;
 
 mod asking;
 pub mod node;
+mod peak;
 pub mod peers;
 pub mod room;
 pub mod serving;

@@ -11,6 +11,7 @@ ghost use Rattle.iiif_server.specs.Code.{HasImages};
 ghost use Rattle.iiif_server.specs.Nodes.{StandsFor};
 
 use crate::asking::{Asked, Host, Planned};
+use crate::peak::Peak;
 use crate::room::Room;
 use crate::stock::Stock;
 use iiif_answers::accepted::Accepted;
@@ -68,6 +69,8 @@ where
     groups: Groups<R, S, J, N, T>,
     /// Who may make blocks now.
     queue: JobQueue,
+    /// How much was kept beside one answer.
+    kept: Peak,
 }
 
 impl<R, S: Source<R>, J: System, N, T> Model for Node<R, S, J, N, T>
@@ -116,6 +119,7 @@ impl<R, S: Source<R> + Drop, J: System, N, T> Node<R, S, J, N, T> {
             config,
             groups,
             queue,
+            kept: Peak::new(),
         })
     }
 
@@ -181,6 +185,11 @@ impl<R: Wait, S: Source<R> + Drop, J: System, N, T> Node<R, S, J, N, T> {
             return None;
         };
         Some(Passes { tile, sum })
+    }
+
+    /// Returns how many samples and sums of shared values were kept beside one answer so far, at most.
+    pub fn most_kept(&self, rt: &R) -> u64 {
+        self.kept.most(rt)
     }
 
     /// Takes the passes of a worker back.
@@ -265,11 +274,14 @@ impl<
             start: planned.head,
         };
         match send_image(&context, passes, &sending, out) {
-            Ok(delivered) => Ok(Sent {
-                status: 200,
-                bytes: delivered.bytes,
-                held: delivered.held,
-            }),
+            Ok(delivered) => {
+                self.kept.raise(host.rt, delivered.kept);
+                Ok(Sent {
+                    status: 200,
+                    bytes: delivered.bytes,
+                    held: delivered.held,
+                })
+            }
             Err(Stopped::Writer(sent)) => Err(Cut {
                 sent,
                 cause: Cause::Writer,

@@ -75,6 +75,7 @@ fn metrics() -> Metrics {
             open_now: [11, 12, 13],
             refused: [14, 15, 16],
         },
+        kept: 17,
     }
 }
 
@@ -163,6 +164,9 @@ iiif_answers_cut_total{cause=\"memory\"} 45
 # HELP iiif_answer_bytes_total Bytes of answers and their heads.
 # TYPE iiif_answer_bytes_total counter
 iiif_answer_bytes_total 10
+# HELP iiif_answer_kept_most Samples and sums of shared values that were kept beside one answer, at most.
+# TYPE iiif_answer_kept_most gauge
+iiif_answer_kept_most 17
 # HELP iiif_answers_total Answers that were sent whole.
 # TYPE iiif_answers_total counter
 iiif_answers_total{status=\"200\"} 1

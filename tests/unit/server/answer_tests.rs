@@ -221,11 +221,14 @@ fn targets_of_16_bits_get_their_bodies(rt: HostRuntime) {
     all_are(&rt, &DEEP_BODIES);
 }
 
-/// Of four samples a row, at least a row is held and at most a band twice.
-const HELD_BY_ROW: &[Case<'static>] = &[(
-    Ask::Body(b"/iiif/a/full/max/90/default.tif"),
-    Want::Held(200, 4, 8, Text::Is(&TURNED_FILE)),
-)];
+/// Of four samples a row, at least a row is held and at most a band twice. Of tiles that are turned nothing is kept.
+const HELD_BY_ROW: &[Case<'static>] = &[
+    (
+        Ask::Body(b"/iiif/a/full/max/90/default.tif"),
+        Want::Held(200, 4, 8, Text::Is(&TURNED_FILE)),
+    ),
+    (Ask::Kept, Want::Booked(0, 0, 0)),
+];
 
 /// A band of more rows than there are has four.
 const HELD_AT_ONCE: &[Case<'static>] = &[(
@@ -233,11 +236,14 @@ const HELD_AT_ONCE: &[Case<'static>] = &[(
     Want::Held(200, 4, 32, Text::Is(&TURNED_FILE)),
 )];
 
-/// Two samples a row, each a mean, are held so.
-const HELD_HALF: &[Case<'static>] = &[(
-    Ask::Body(b"/iiif/a/full/2,/90/default.tif"),
-    Want::Held(200, 2, 4, Text::Long(178, &[105, 25, 125, 45])),
-)];
+/// Two samples a row, each a mean, are held so. The block that they are made of has four sums, and stays for the second row.
+const HELD_HALF: &[Case<'static>] = &[
+    (
+        Ask::Body(b"/iiif/a/full/2,/90/default.tif"),
+        Want::Held(200, 2, 4, Text::Long(178, &[105, 25, 125, 45])),
+    ),
+    (Ask::Kept, Want::Booked(4, 4, 0)),
+];
 
 /// How much is held of an image, whoever makes it.
 static HELD: [Table; 3] = [

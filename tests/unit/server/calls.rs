@@ -151,6 +151,7 @@ fn end_of<R: Threads + Wait + Clock + Sync, J: System + Send + Sync>(
         Ask::Sums => booked(rt, node),
         Ask::Books(sums, tiles) => counted(0, u64::from(has_books(rt, node, sums, tiles))),
         Ask::Reads => read(node),
+        Ask::Kept => counted(node.most_kept(rt) as usize, 0),
         Ask::Told(counts) => counted(0, u64::from(is_same(&seen.told.counts(), &counts))),
         Ask::Alone => counted(0, u64::from(seen.gate.alone.load(Ordering::SeqCst))),
     }

@@ -109,6 +109,8 @@ pub(crate) enum Ask<'a> {
     Books(Book, Book),
     /// Nothing: how many reads of the file were made so far.
     Reads,
+    /// Nothing: how many samples and sums of shared values were kept beside one answer so far, at most.
+    Kept,
     /// Nothing: whether the watch was told this so far.
     Told([u64; 6]),
     /// Nothing: whether the first load went on alone.
