@@ -4,8 +4,10 @@ The outcomes that are wanted are those of the manual page and docs/OPERATING.md;
 """
 import os
 import re
+import resource
 import signal
 import socket
+import subprocess
 import sys
 import time
 import urllib.error
@@ -272,6 +274,19 @@ def as_many_files_stay_open_as_open_files_says(program, room):
             paths = [os.readlink(f"{folder}/{number}") for number in os.listdir(folder)]
             got.append(sum("/numbered/" in path for path in paths))
     return got, [4, 17, 256], command(program, "--open-files", 4, "--images", "list_of_300")
+
+
+@shows("--open-files")
+def a_start_that_runs_out_of_files_says_so(program, room):
+    # The process may have 60 open files: by default the start keeps 256 of the images' open.
+    got, told = [], "it can't be opened, too many open files (EMFILE): raise the limit of the process, or lower --open-files"
+    for words in ([], ["--open-files", "20"]):
+        words = [program, "--base", BASE, "--check", "--images", "list_of_300", *words]
+        limit = lambda: resource.setrlimit(resource.RLIMIT_NOFILE, (60, 60))  # noqa: E731
+        done = subprocess.run(words, cwd=room, capture_output=True, text=True, timeout=60, preexec_fn=limit)
+        lines = done.stdout.splitlines()
+        got.append((done.returncode, told in lines, {it for it in lines if it.startswith("it ")} <= {told}))
+    return got, [(2, True, True), (0, False, True)], command(program, "--open-files", 20, "--images", "list_of_300")
 
 
 @shows("--touch-bytes")

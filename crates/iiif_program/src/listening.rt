@@ -17,7 +17,7 @@ use iiif_io::Outlet;
 use iiif_keys::{PARTS, SumKey, System, TileKey};
 use iiif_open_files::Opens;
 use iiif_services::Listeners;
-use iiif_start::{Stop, Stored, touch, warn, warn_of_room};
+use iiif_start::{Reason, Stop, Stored, touch, warn, warn_of_room};
 use std::alloc::Global;
 use std::marker::Brand;
 use std::net::{Net, TcpListener, TcpStream};
@@ -168,8 +168,9 @@ where
         times: listening.times,
         watcher: post.watcher,
     };
-    let Ok(listeners) = Listeners::bind(rt, alloc, &listening.addresses) else {
-        return Err(Stop::Listen);
+    let listeners = match Listeners::bind(rt, alloc, &listening.addresses) {
+        Ok(listeners) => listeners,
+        Err(error) => return Err(Stop::Listen(Reason::of(&error))),
     };
     // Where the warnings can't be written, it serves all the same.
     let options = post.options;
@@ -182,6 +183,6 @@ where
     );
     match serving::serve(rt, alloc, node, manner, &listeners, err) {
         Ok(()) => Ok(()),
-        Err(_) => Err(Stop::Listen),
+        Err(error) => Err(Stop::Listen(Reason::of(&error))),
     }
 }

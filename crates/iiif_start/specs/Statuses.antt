@@ -18,7 +18,7 @@ status_of Faulty = 2
 status_of Memory = 1
 status_of Write = 1
 status_of Source = 1
-status_of Listen = 1
+status_of (Listen reason) = 1
 
 -- of words that are at fault: 1 where memory runs out, else 2
 abbrev pub status_of_words : LineFault → ℕ
@@ -27,7 +27,7 @@ status_of_words fault = 2
 
 -- the number of an image's fault: 0 where its file can't be opened or is none, else the reader's
 abbrev pub unfit_number : Unfit → ℕ
-unfit_number Closed = 0
+unfit_number (Closed reason) = 0
 unfit_number NotPlain = 0
 unfit_number (Refused fault) = open_number fault
 

@@ -9,6 +9,7 @@ ghost use Rattle.iiif_start.specs.Parts.{Parts};
 ghost use Rattle.iiif_start.specs.Stored.{bytes_of, is_held, keeps_of, IsItemOf, IsSourceOf};
 
 use crate::holding::{HoldFault, read_whole};
+use crate::reason::Reason;
 use crate::sample::sample;
 use crate::stop::Stop;
 use crate::stored::Stored;
@@ -132,7 +133,7 @@ fn closed<'a>(name: &'a str, error: &Error) -> Stop<'a> {
     match error.kind() {
         ErrorKind::OutOfMemory => Stop::Memory,
         ErrorKind::InvalidInput => Stop::Image(name, Unfit::NotPlain),
-        _ => Stop::Image(name, Unfit::Closed),
+        _ => Stop::Image(name, Unfit::Closed(Reason::of(error))),
     }
 }
 

@@ -4,6 +4,7 @@ ghost use Rattle.std.specs.Prelude.{◌≡◌};
 ghost use Rattle.iiif_start.specs.Statuses.{status_of};
 
 use crate::name::Word;
+use crate::reason::Reason;
 use crate::unfit::Unfit;
 use std::io::Write;
 
@@ -17,12 +18,13 @@ pub enum Stop<'a> {
     Memory,
     Write,
     Source,
-    Listen,
+    /// It can't listen: what the system said.
+    Listen(Reason),
 }
 
 impl<'a> Stop<'a> {
-    /// Says it in a line, of an image with a second one that says what to do, and gives the program's status: 2 where an image is
-    /// at fault, else 1.
+    /// Says it in a line, of an image and where it can't listen with a second one that says what to do, and gives the program's status: 2
+    /// where an image is at fault, else 1.
     pub fn report<E: Write>(self, err: &mut E) -> u8
         ensures { result ≡ status_of self.entry }
     {
@@ -36,7 +38,30 @@ impl<'a> Stop<'a> {
             Stop::Memory => report_end(err, "run: memory", 1),
             Stop::Write => report_end(err, "run: write", 1),
             Stop::Source => report_end(err, "run: source", 1),
-            Stop::Listen => report_end(err, "run: listen", 1),
+            Stop::Listen(reason) => {
+                let _ = report_end(err, "run: listen", 1);
+                report_end(err, remedy_of_listening(reason), 1)
+            }
+        }
+    }
+}
+
+/// What to do where the system doesn't let the program listen.
+fn remedy_of_listening(reason: Reason) -> &'static str {
+    match reason {
+        Reason::Taken => {
+            "the address is taken (EADDRINUSE): another process listens there, or another option names it"
+        }
+        Reason::NoAddress => "this machine has no such address (EADDRNOTAVAIL)",
+        Reason::Denied => {
+            "permission denied (EACCES): a port below 1,024 is for root, or for who has CAP_NET_BIND_SERVICE"
+        }
+        Reason::ProcessFull => {
+            "too many open files (EMFILE): raise the limit of the process, or lower --open-files"
+        }
+        Reason::SystemFull => "too many open files of the system (ENFILE): raise fs.file-max",
+        Reason::Missing | Reason::Device | Reason::Other => {
+            "an address is an IP address or a host's name, and a port: 127.0.0.1:8080, [::1]:8080"
         }
     }
 }

@@ -8,6 +8,7 @@ ghost use Rattle.iiif_start.specs.Statuses.{unfit_number};
 ghost use Rattle.iiif_start.specs.Told.{unfit_lines};
 
 use crate::name::Word;
+use crate::reason::Reason;
 use iiif_advice::advice;
 use iiif_fault::Numbered;
 use iiif_tiff_read::OpenFault;
@@ -17,8 +18,8 @@ use std::io::Write;
 /// Why an image can't be served.
 #[derive(Clone, Copy, Debug, PartialEq, Eq)]
 pub enum Unfit {
-    /// Its file can't be opened.
-    Closed,
+    /// Its file can't be opened: what the system said.
+    Closed(Reason),
     /// What stands under its path is no plain file.
     NotPlain,
     /// Its file isn't one that is read.
@@ -31,7 +32,7 @@ impl Unfit {
         ensures { result ≡ unfit_number self.now }
     {
         match self {
-            Unfit::Closed | Unfit::NotPlain => 0,
+            Unfit::Closed(_) | Unfit::NotPlain => 0,
             Unfit::Refused(fault) => fault.number(),
         }
     }
@@ -42,9 +43,7 @@ impl Unfit {
         ensures some { 0 < length result.now }
     {
         match self {
-            Unfit::Closed => {
-                "it can't be opened: look at the path and at the rights of the user that the server runs as"
-            }
+            Unfit::Closed(reason) => remedy_of_closed(*reason),
             Unfit::NotPlain => "it is no plain file: a folder, a pipe or a device is none",
             Unfit::Refused(fault) => advice(fault),
         }
@@ -56,6 +55,33 @@ impl Unfit {
             Appends (W.contents out.old) (W.contents out.new) (unfit_lines name.entry.0.now (unfit_number self.now) remedy)) }
     {
         put_lines(out, name, self.number(), self.remedy())
+    }
+}
+
+/// What to do about a file that the system doesn't open: one line, without its end.
+fn remedy_of_closed(reason: Reason) -> &'static str
+    ensures one_line { list_all is_line_byte result.now ≡ true }
+    ensures some { 0 < length result.now }
+{
+    match reason {
+        Reason::Missing => {
+            "it can't be opened, there is no such file: look at the path, and whether its disk is mounted"
+        }
+        Reason::Denied => {
+            "it can't be opened, permission denied: look at the rights of the user that the server runs as, of each folder too"
+        }
+        Reason::ProcessFull => {
+            "it can't be opened, too many open files (EMFILE): raise the limit of the process, or lower --open-files"
+        }
+        Reason::SystemFull => {
+            "it can't be opened, too many open files of the system (ENFILE): raise fs.file-max"
+        }
+        Reason::Device => {
+            "it can't be opened, a device failed (EIO): look at the disk, and at the system's log"
+        }
+        Reason::Taken | Reason::NoAddress | Reason::Other => {
+            "it can't be opened: look at the path and at the rights of the user that the server runs as"
+        }
     }
 }
 

@@ -4,7 +4,7 @@ use crate::fixtures::{is_same, is_same_text};
 use iiif_command_line::{Listed, Options, matches, options_in};
 use iiif_start::dot_segments::{has_dot_segment, is_dot_segment};
 use iiif_start::rooms::is_unfilled;
-use iiif_start::{Stop, warn, warn_of_room};
+use iiif_start::{Reason, Stop, warn, warn_of_room};
 use std::num::NonZeroUsize;
 use std::test::Fail;
 
@@ -48,11 +48,18 @@ fn settings_left_out_have_their_defaults(rt: HostRuntime) {
 }
 
 /// Why the program ends while it runs, and the line of the manual page for it.
-static ENDS: [(Stop<'static>, &[u8]); 4] = [
+static ENDS: [(Stop<'static>, &[u8]); 5] = [
     (Stop::Memory, b"run: memory\n"),
     (Stop::Write, b"run: write\n"),
     (Stop::Source, b"run: source\n"),
-    (Stop::Listen, b"run: listen\n"),
+    (
+        Stop::Listen(Reason::Taken),
+        b"run: listen\nthe address is taken (EADDRINUSE): another process listens there, or another option names it\n",
+    ),
+    (
+        Stop::Listen(Reason::NoAddress),
+        b"run: listen\nthis machine has no such address (EADDRNOTAVAIL)\n",
+    ),
 ];
 
 #[test]
