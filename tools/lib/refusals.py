@@ -208,7 +208,7 @@ def function_of_proof(crate, path, goal):
     parts = list(path.relative_to("proofs").parts[:-1])
     if parts and parts[-1].startswith("+"):
         # A cycle of functions has one proof, whose goals begin with their function.
-        parts[-1] = goal.split("-")[0]
+        parts[-1:] = goal.split("-")[0].split("::")
     return next((it for it in functions(crate) if is_path_of(parts, it)), None)
 
 

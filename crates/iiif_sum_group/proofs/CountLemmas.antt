@@ -53,7 +53,8 @@ one_more_asked key part old mid new i n below inside sums tiles asked =
     let more : i + 1 ≤ n = omega (arith, inside) in
     record {
       sums = of_fewer old.sum.gets new.sum.gets (i + 1) n (2 * (1 + blocks_below (key.level - 1))) more
-          (one_part_more (λ l. 2 * (1 + blocks_below l)) key.level part.level old.sum.gets mid.sum.gets new.sum.gets i below sums asked.sums);
+          (one_part_more (λ l. 2 * (1 + blocks_below l)) key.level part.level old.sum.gets mid.sum.gets new.sum.gets i below sums
+          asked.sums);
       tiles = of_fewer old.tile.gets new.tile.gets (i + 1) n (2 * 4 ^ (key.level - 1)) more
           (one_part_more (λ l. 2 * 4 ^ l) key.level part.level old.tile.gets mid.tile.gets new.tile.gets i below tiles asked.tiles);
     }

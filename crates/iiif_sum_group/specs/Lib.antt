@@ -5,3 +5,4 @@ pub mod Outcomes
 pub mod Calls
 pub mod Code
 pub mod Asking
+pub mod Levels

@@ -1,20 +1,27 @@
 //! Tiles and sums of the images that a node has.
 
 ghost use Rattle.std.specs.Prelude.{◌≡◌};
+ghost use Rattle.iiif_keys.specs.Names.{named, IsSource};
+ghost use Rattle.iiif_keys.specs.Shapes.{HasPicture};
+ghost use Rattle.iiif_group.specs.Beginning.{open_key};
+ghost use Rattle.iiif_group.specs.Ending.{IsExact, TellsFault};
 ghost use Rattle.iiif_tile_group.specs.Views.{items_tiled};
 ghost use Rattle.iiif_sum_group.specs.Calls.{Gets, Loads};
-ghost use Rattle.iiif_sum_group.specs.Code.{Copies};
+ghost use Rattle.iiif_sum_group.specs.Asking.{Asks};
+ghost use Rattle.iiif_sum_group.specs.Code.{Copies, FitsShape};
+ghost use Rattle.iiif_sum_group.specs.Outcomes.{EndsWith, KnowsSums};
 ghost use Rattle.iiif_sum_group.specs.Views.{items_served};
 
+use crate::below::Below;
 use iiif_area::Sums;
-use iiif_group::{Begun, Gate, Group, Link, Passes, SumCalls, TileCalls};
-use iiif_keys::{Fault, SumKey, SumVal, System, TileKey};
+use iiif_group::{Begun, Completed, Gate, Group, Link, Open, Passes, SumCalls, TileCalls};
+use iiif_keys::{Fault, Shape, SumKey, SumVal, System, TileKey};
 use iiif_singleflight::Receipt;
 use iiif_source::Source;
 use iiif_tile_group::Tiles;
 use std::alloc::Global;
-use std::sync::Wait;
 use std::sync::ledger::Ledger;
+use std::sync::{Arc, Wait};
 
 /// Copies sums, for one caller. The only fault is lack of memory.
 fn copy_sums(alloc: Global, value: &SumVal) -> Result<SumVal, Fault>
@@ -82,7 +89,7 @@ impl<
         ensures { Loads J.System key.now passes.old passes.new result }
     {
         let (_entry, shape) = self.tiles.images().image_of(key)?;
-        match self.make(rt, passes, &shape, key) {
+        match Below::new(self, key).make(rt, passes, &shape, key) {
             Ok(value) => copy_sums(self.alloc, &*value),
             Err(fault) => Err(fault),
         }
@@ -99,7 +106,7 @@ impl<
         ensures { Gets key.now passes.old passes.new result }
     {
         let (_entry, shape) = self.tiles.images().image_of(key)?;
-        self.ask_part(rt, passes, &shape, key)
+        self.enter(rt, passes, &shape, key)
     }
 
     /// Gets the outcome of a flight of this node alone, whoever owns the key; the owners of its parts are asked. By this a node serves the
@@ -116,10 +123,66 @@ impl<
         match self.sums.begin_local(rt, &mut passes.sum, key, &shape) {
             Ok(Begun::Known(receipt)) => Ok(receipt),
             Ok(Begun::Load(load)) => {
-                let made = self.make(rt, passes, &shape, key);
+                let made = Below::new(self, key).make(rt, passes, &shape, key);
                 Ok(self.end(rt, load, key, made))
             }
             Err(_) => Err(Fault::NoMemory),
         }
+    }
+
+    /// Gets the outcome of a flight of a key that fits. Between `begin` and `complete` runs what has the groups below the key alone.
+    #[cycle(sums)]
+    pub(crate) fn enter(
+        &self,
+        rt: &R,
+        passes: &mut Passes<J>,
+        shape: &Shape,
+        key: &SumKey,
+    ) -> Result<Receipt<SumKey, J, SumCalls<J>>, Fault>
+        requires known { HasPicture J.pictures key.now.name shape.now }
+        requires source { IsSource (named J.pictures key.now.name) }
+        requires fits { FitsShape shape.now key.now }
+        ensures { Asks key.now passes.old passes.new result }
+    {
+        match self.sums.begin(rt, &mut passes.sum, key, shape) {
+            Ok(Begun::Known(receipt)) => Ok(receipt),
+            Ok(Begun::Load(load)) => {
+                let made = Below::new(self, key).make(rt, passes, shape, key);
+                Ok(self.end(rt, load, key, made))
+            }
+            Err(_) => Err(Fault::NoMemory),
+        }
+    }
+
+    /// Completes a load of a key with what was made, for all that wait.
+    pub(crate) fn complete(
+        &self,
+        rt: &R,
+        load: Open<SumKey, J, SumCalls<J>>,
+        key: &SumKey,
+        made: Result<Arc<SumVal>, Fault>,
+    ) -> Completed<SumKey, J, SumCalls<J>>
+        requires key { open_key load ≡ key.now }
+        requires made { EndsWith J.System key.now made }
+        ensures known { KnowsSums key.now result.receipt }
+        ensures exact { IsExact made result }
+        ensures fault { TellsFault made result }
+    {
+        self.sums.complete(rt, load, made)
+    }
+
+    /// Completes a load of a key, and returns the receipt of the flight that the call entered first.
+    pub(crate) fn end(
+        &self,
+        rt: &R,
+        load: Open<SumKey, J, SumCalls<J>>,
+        key: &SumKey,
+        made: Result<Arc<SumVal>, Fault>,
+    ) -> Receipt<SumKey, J, SumCalls<J>>
+        requires key { open_key load ≡ key.now }
+        requires made { EndsWith J.System key.now made }
+        ensures { KnowsSums key.now result }
+    {
+        self.complete(rt, load, key, made).receipt
     }
 }

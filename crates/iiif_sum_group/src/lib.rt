@@ -10,6 +10,7 @@ pub use iiif_group::{
 };
 pub use iiif_tile_group::Tiles;
 
+mod below;
 pub mod groups;
 pub mod handle;
 mod make_error;

@@ -4,20 +4,17 @@ ghost use Rattle.std.specs.Prelude.{◌≡◌, ◌<◌, ◌∷◌, [], Err, IfEr
 ghost use Rattle.iiif_keys.specs.Names.{named, IsSource};
 ghost use Rattle.iiif_keys.specs.Shapes.{HasPicture};
 ghost use Rattle.iiif_outcome.specs.Outcomes.{is_given};
-ghost use Rattle.iiif_group.specs.Beginning.{open_key};
-ghost use Rattle.iiif_group.specs.Ending.{IsExact, TellsFault};
-ghost use Rattle.iiif_sum_group.specs.Asking.{AskedAll, Asks, AsksSoMany, HasAsManyParts, Makes, MakesOfParts, MakesOne, Rises};
+ghost use Rattle.iiif_sum_group.specs.Asking.{AskedAll, AsksSoMany, HasAsManyParts, Makes, MakesOfParts, MakesOne, Rises};
 ghost use Rattle.iiif_sum_group.specs.declared.make_error.MakeError.TheVariants.{Total};
 ghost use Rattle.iiif_sum_group.specs.Code.{Boxes, CanTotal, FitsShape, HasQuarters, HasTile, HasValues, Keeps, Totals};
-ghost use Rattle.iiif_sum_group.specs.Outcomes.{EndsWith, KnowsSums};
+ghost use Rattle.iiif_sum_group.specs.Outcomes.{EndsWith};
 ghost use Rattle.iiif_sum_group.specs.Values.{AreValuesOf, MayBeAsked};
 
-use crate::groups::Groups;
+use crate::below::Below;
 use crate::make_error::MakeError;
-use iiif_group::{Begun, Completed, Gate, Link, Open, Passes, SumCalls, share, take_outcome};
+use iiif_group::{Gate, Link, Passes, share, take_outcome};
 use iiif_keys::laws::{fitting_keys_have_parts, parts_are_exact, parts_make_the_meaning};
 use iiif_keys::{CacheKey, Fault, Parts, Shape, SumKey, SumVal, System, TileKey, parts};
-use iiif_singleflight::Receipt;
 use iiif_source::Source;
 use std::alloc::Global;
 use std::sync::{Arc, Wait};
@@ -83,12 +80,15 @@ pub(crate) fn combine_parts<J: System>(
 }
 
 impl<
+    'a,
     R: Wait,
     S: Source<R> + Drop,
     J: System,
     N: Link<TileKey, J, R> + Link<SumKey, J, R>,
     T: Gate<R>,
-> Groups<R, S, J, N, T> {
+> Below<'a, R, S, J, N, T> {
+    ghost use Rattle.iiif_sum_group.specs.Levels.{level_above};
+
     /// Makes the sums of a block of level 0: gets its tile, and sums that.
     fn make_of_tile(
         &self,
@@ -104,46 +104,14 @@ impl<
         // Laws of keys.
         TileKey::laws();
         SumKey::laws();
-        let Ok(receipt) = self.tiles.get(rt, &mut passes.tile, tile) else {
+        let Ok(receipt) = self.ask_tile(rt, &mut passes.tile, tile) else {
             return Err(Fault::NoMemory);
         };
         let value = take_outcome(receipt, tile)?;
-        match SumVal::of_tile(self.alloc, key, shape, &*value) {
+        match SumVal::of_tile(self.alloc(), key, shape, &*value) {
             Ok(sums) => Ok(sums),
             Err(_) => Err(Fault::NoMemory),
         }
-    }
-
-    /// Completes a load of a key with what was made, for all that wait.
-    pub(crate) fn complete(
-        &self,
-        rt: &R,
-        load: Open<SumKey, J, SumCalls<J>>,
-        key: &SumKey,
-        made: Result<Arc<SumVal>, Fault>,
-    ) -> Completed<SumKey, J, SumCalls<J>>
-        requires key { open_key load ≡ key.now }
-        requires made { EndsWith J.System key.now made }
-        ensures known { KnowsSums key.now result.receipt }
-        ensures exact { IsExact made result }
-        ensures fault { TellsFault made result }
-    {
-        self.sums.complete(rt, load, made)
-    }
-
-    /// Completes a load of a key, and returns the receipt of the flight that the call entered first.
-    pub(crate) fn end(
-        &self,
-        rt: &R,
-        load: Open<SumKey, J, SumCalls<J>>,
-        key: &SumKey,
-        made: Result<Arc<SumVal>, Fault>,
-    ) -> Receipt<SumKey, J, SumCalls<J>>
-        requires key { open_key load ≡ key.now }
-        requires made { EndsWith J.System key.now made }
-        ensures { KnowsSums key.now result }
-    {
-        self.complete(rt, load, key, made).receipt
     }
 
     /// Makes the value of a key that fits of its parts: of one tile, or of sums of the level below. A call that leads a flight runs this,
@@ -156,6 +124,7 @@ impl<
         shape: &Shape,
         key: &SumKey,
     ) -> Result<Arc<SumVal>, Fault>
+        requires level { level_above self.now ≡ key.now.level }
         requires known { HasPicture J.pictures key.now.name shape.now }
         requires source { IsSource (named J.pictures key.now.name) }
         requires fits { FitsShape shape.now key.now }
@@ -163,9 +132,12 @@ impl<
     {
         // A law of keys.
         fitting_keys_have_parts();
-        match parts(self.alloc, key) {
+        match parts(self.alloc(), key) {
             Ok(Parts::Tile(tile)) => {
-                share_result(self.alloc, self.make_of_tile(rt, passes, shape, key, &tile))
+                share_result(
+                    self.alloc(),
+                    self.make_of_tile(rt, passes, shape, key, &tile),
+                )
             }
             Ok(Parts::Sums(quarters)) => match self.make_of_parts(
                 rt, passes, shape, key, &quarters,
@@ -188,14 +160,15 @@ impl<
         key: &SumKey,
         quarters: &[SumKey],
     ) -> Result<Arc<SumVal>, MakeError>
-        requires { HasQuarters J.System key.now shape.now quarters.now }
+        requires level { level_above self.now ≡ key.now.level }
+        requires quarters { HasQuarters J.System key.now shape.now quarters.now }
         ensures made { MakesOfParts J.System key.now passes.old passes.new result }
         ensures late { result ≡ Err Total → AskedAll quarters.now passes.old passes.new }
     {
         // A law of parts.
         parts_are_exact();
         match self.ask_parts(rt, passes, shape, key, quarters) {
-            Ok(values) => match combine_parts::<J>(self.alloc, shape, key, values) {
+            Ok(values) => match combine_parts::<J>(self.alloc(), shape, key, values) {
                 Ok(value) => Ok(value),
                 Err(_) => Err(MakeError::Total),
             },
@@ -213,7 +186,7 @@ impl<
         key: &SumKey,
         keys: &[SumKey],
     ) -> Result<Vec<Arc<SumVal>>, Fault>
-        requires level { 0 < key.now.level }
+        requires level { level_above self.now ≡ key.now.level }
         requires may { MayBeAsked J.pictures shape.now key.now keys.now }
         ensures values { IfOk result (λ v. AreValuesOf J.pictures shape.now (J.stable key.now.name × IsTrue J.honest) keys.now v.items) }
         ensures given { IfErr result (λ f. IsTrue (is_given (J.gave key.now.name) f)) }
@@ -224,36 +197,12 @@ impl<
     {
         // Laws of keys.
         SumKey::laws();
-        let mut values = Vec::new(self.alloc);
+        let mut values = Vec::new(self.alloc());
         for part in keys {
             let receipt = self.ask_part(rt, passes, shape, part)?;
             let value = take_outcome(receipt, part)?;
             keep(&mut values, value)?;
         }
         Ok(values)
-    }
-
-    /// Gets the outcome of a flight of a key that fits.
-    #[cycle(sums)]
-    pub(crate) fn ask_part(
-        &self,
-        rt: &R,
-        passes: &mut Passes<J>,
-        shape: &Shape,
-        key: &SumKey,
-    ) -> Result<Receipt<SumKey, J, SumCalls<J>>, Fault>
-        requires known { HasPicture J.pictures key.now.name shape.now }
-        requires source { IsSource (named J.pictures key.now.name) }
-        requires fits { FitsShape shape.now key.now }
-        ensures { Asks key.now passes.old passes.new result }
-    {
-        match self.sums.begin(rt, &mut passes.sum, key, shape) {
-            Ok(Begun::Known(receipt)) => Ok(receipt),
-            Ok(Begun::Load(load)) => {
-                let made = self.make(rt, passes, shape, key);
-                Ok(self.end(rt, load, key, made))
-            }
-            Err(_) => Err(Fault::NoMemory),
-        }
     }
 }

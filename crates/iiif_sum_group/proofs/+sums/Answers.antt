@@ -16,10 +16,10 @@ use Rattle.iiif_sum_group.specs.Values.{AreValuesOf, MayBeAsked}
 use Rattle.iiif_sum_group.specs.Below.{blocks_below}
 use Rattle.iiif_sum_group.proofs.CountLemmas.{below_of_parts, one_more_asked, one_part_more, parts_of_quarters}
 use Rattle.iiif_sum_group.proofs.SumLemmas.{fault_passed_on, one_value_more}
-use Rattle.iiif_sum_group.proofs.groups.Groups.+sums.Goals as goal
+use Rattle.iiif_sum_group.proofs.+sums.Goals as goal
 
-pub ask_parts-loop-part-preserved : goal.ask_parts-loop-part-preserved
-ask_parts-loop-part-preserved g t c =
+pub below::Below::ask_parts-loop-part-preserved : goal.below::Below::ask_parts-loop-part-preserved
+below::Below::ask_parts-loop-part-preserved g t c =
     let shows = g.J.System.pictures in
     let s = c.args.shape.now in
     let keys = c.args.keys.now in
@@ -47,8 +47,8 @@ ask_parts-loop-part-preserved g t c =
       sum_parts = asked.parts.1 ∙ before.sum_parts;
     }
 
-pub ask_parts-returns-in_err-value-clause-given : goal.ask_parts-returns-in_err-value-clause-given
-ask_parts-returns-in_err-value-clause-given g t c =
+pub below::Below::ask_parts-returns-in_err-value-clause-given : goal.below::Below::ask_parts-returns-in_err-value-clause-given
+below::Below::ask_parts-returns-in_err-value-clause-given g t c =
     let keys = c.args.keys.now in
     let i = c.loop-part.part-index in
     let k = c.part-item.result in
@@ -59,20 +59,20 @@ ask_parts-returns-in_err-value-clause-given g t c =
     (subst (λ (m : List ℕ). IsTrue (is_given (g.J.System.gave m) f)) below.name (c.in_err-value.ensures.given f refl))
     (err_from_is_err_and c.from_residual-in_err-value.result c.from_residual-in_err-value.ensures.1)
 
-pub ask_parts-returns-clause-values : goal.ask_parts-returns-clause-values
-ask_parts-returns-clause-values g t c =
+pub below::Below::ask_parts-returns-clause-values : goal.below::Below::ask_parts-returns-clause-values
+below::Below::ask_parts-returns-clause-values g t c =
     let past : length c.args.keys.now ≤ c.loop-part.part-index = omega arith in
     subst (λ (ks : List SumKey). AreValuesOf g.J.System.pictures c.args.shape.now
     (g.J.System.stable c.args.key.now.name × IsTrue g.J.System.honest) ks c.loop-part.values.items)
     (take_all c.loop-part.part-index c.args.keys.now past) c.loop-part.invariant.values
 
-pub ask_parts-returns-clause-asked : goal.ask_parts-returns-clause-asked
-ask_parts-returns-clause-asked g t c =
+pub below::Below::ask_parts-returns-clause-asked : goal.below::Below::ask_parts-returns-clause-asked
+below::Below::ask_parts-returns-clause-asked g t c =
     let past : length c.args.keys.now ≤ c.loop-part.part-index = omega arith in
     omega (arith, past, c.loop-part.invariant.sum)
 
-pub ask_parts-returns-in_err-value-clause-below : goal.ask_parts-returns-in_err-value-clause-below
-ask_parts-returns-in_err-value-clause-below g t c =
+pub below::Below::ask_parts-returns-in_err-receipt-clause-below : goal.below::Below::ask_parts-returns-in_err-receipt-clause-below
+below::Below::ask_parts-returns-in_err-receipt-clause-below g t c =
     let keys = c.args.keys.now in
     let i = c.loop-part.part-index in
     let k = c.part-item.result in
@@ -81,8 +81,8 @@ ask_parts-returns-in_err-value-clause-below g t c =
     one_more_asked c.args.key.now k _ _ _ i (length keys) below.level c.loop-part-test.true c.loop-part.invariant.most_sum
     c.loop-part.invariant.most_tile c.ask_part.ensures.below
 
-pub ask_parts-returns-in_err-keep-clause-below : goal.ask_parts-returns-in_err-keep-clause-below
-ask_parts-returns-in_err-keep-clause-below g t c =
+pub below::Below::ask_parts-returns-in_err-value-clause-below : goal.below::Below::ask_parts-returns-in_err-value-clause-below
+below::Below::ask_parts-returns-in_err-value-clause-below g t c =
     let keys = c.args.keys.now in
     let i = c.loop-part.part-index in
     let k = c.part-item.result in
@@ -91,8 +91,19 @@ ask_parts-returns-in_err-keep-clause-below g t c =
     one_more_asked c.args.key.now k _ _ _ i (length keys) below.level c.loop-part-test.true c.loop-part.invariant.most_sum
     c.loop-part.invariant.most_tile c.ask_part.ensures.below
 
-pub make_of_parts-returns-in-Ok-combine_parts-clause-made : goal.make_of_parts-returns-in-Ok-combine_parts-clause-made
-make_of_parts-returns-in-Ok-combine_parts-clause-made g t c =
+pub below::Below::ask_parts-returns-in_err-keep-clause-below : goal.below::Below::ask_parts-returns-in_err-keep-clause-below
+below::Below::ask_parts-returns-in_err-keep-clause-below g t c =
+    let keys = c.args.keys.now in
+    let i = c.loop-part.part-index in
+    let k = c.part-item.result in
+    let below : IsBelow c.args.key.now k = subst (IsBelow c.args.key.now) (sym c.part-item.is)
+    (All-get_or (IsBelow c.args.key.now) keys i k c.loop-part-test.true c.requires.may.below) in
+    one_more_asked c.args.key.now k _ _ _ i (length keys) below.level c.loop-part-test.true c.loop-part.invariant.most_sum
+    c.loop-part.invariant.most_tile c.ask_part.ensures.below
+
+pub below::Below::make_of_parts-returns-in-Ok-combine_parts-clause-made :
+    goal.below::Below::make_of_parts-returns-in-Ok-combine_parts-clause-made
+below::Below::make_of_parts-returns-in-Ok-combine_parts-clause-made g t c =
     let key = c.args.key.now in
     let quarters = c.args.quarters.now in
     record {
@@ -101,35 +112,36 @@ make_of_parts-returns-in-Ok-combine_parts-clause-made g t c =
       shaped = λ x e. IfOk-at_ok (λ (v : Arc SumVal Global). IsTrue (sum_is_shaped g.J.System.pictures key (arc_value v))) e
           (c.combine_parts.ensures.shaped c.in-Ok-combine_parts.value c.in-Ok-combine_parts.is);
       given = search rules;
-      below = below_of_parts key quarters _ _ c.requires.level c.requires.quarters_are c.ask_parts.ensures.below;
-      asked = λ v e. parts_of_quarters key quarters _ _ c.requires.level c.requires.quarters_are c.in-Ok.ensures.asked;
+      below = below_of_parts key quarters _ _ c.requires.quarters.level c.requires.quarters.quarters_are c.ask_parts.ensures.below;
+      asked = λ v e. parts_of_quarters key quarters _ _ c.requires.quarters.level c.requires.quarters.quarters_are c.in-Ok.ensures.asked;
       counted = search rules;
       parts = search rules;
     }
 
-pub make_of_parts-returns-in-Err-combine_parts-clause-made : goal.make_of_parts-returns-in-Err-combine_parts-clause-made
-make_of_parts-returns-in-Err-combine_parts-clause-made g t c =
+pub below::Below::make_of_parts-returns-in-Err-combine_parts-clause-made :
+    goal.below::Below::make_of_parts-returns-in-Err-combine_parts-clause-made
+below::Below::make_of_parts-returns-in-Err-combine_parts-clause-made g t c =
     let key = c.args.key.now in
     let quarters = c.args.quarters.now in
     record {
       meant = search rules;
       shaped = search rules;
       given = search rules;
-      below = below_of_parts key quarters _ _ c.requires.level c.requires.quarters_are c.ask_parts.ensures.below;
+      below = below_of_parts key quarters _ _ c.requires.quarters.level c.requires.quarters.quarters_are c.ask_parts.ensures.below;
       asked = search rules;
       counted = search rules;
       parts = search rules;
     }
 
-pub make_of_parts-returns-in-Err-clause-made : goal.make_of_parts-returns-in-Err-clause-made
-make_of_parts-returns-in-Err-clause-made g t c =
+pub below::Below::make_of_parts-returns-in-Err-clause-made : goal.below::Below::make_of_parts-returns-in-Err-clause-made
+below::Below::make_of_parts-returns-in-Err-clause-made g t c =
     let key = c.args.key.now in
     let quarters = c.args.quarters.now in
     record {
       meant = search rules;
       shaped = search rules;
       given = search rules;
-      below = below_of_parts key quarters _ _ c.requires.level c.requires.quarters_are c.ask_parts.ensures.below;
+      below = below_of_parts key quarters _ _ c.requires.quarters.level c.requires.quarters.quarters_are c.ask_parts.ensures.below;
       asked = search rules;
       counted = search rules;
       parts = search rules;
@@ -138,31 +150,31 @@ make_of_parts-returns-in-Err-clause-made g t c =
 -- Nothing is left to prove of the clause `late`: an edit writes here what would be, of a body that makes the total first;
 -- and no arithmetic proves it, as no part was asked by then.
 
-pub make_of_parts-ask_parts-requires : goal.make_of_parts-ask_parts-requires
-make_of_parts-ask_parts-requires g t c κs within =
+pub below::Below::make_of_parts-ask_parts-requires : goal.below::Below::make_of_parts-ask_parts-requires
+below::Below::make_of_parts-ask_parts-requires g t c κs within =
     let shows = g.J.System.pictures in
     let s = c.args.shape.now in
     let key = c.args.key.now in
     let exact = c.parts_are_exact.ensures in
     let all : MayBeAsked shows s key (sums_below key) = record {
-      known = c.requires.known;
-      source = c.requires.source;
-      below = exact.below key c.requires.level;
-      fits = exact.fit s.dim (channels_of s.kind) key c.requires.level c.requires.fits;
+      known = c.requires.quarters.known;
+      source = c.requires.quarters.source;
+      below = exact.below key c.requires.quarters.level;
+      fits = exact.fit s.dim (channels_of s.kind) key c.requires.quarters.level c.requires.quarters.fits;
     } in
-    let may : MayBeAsked shows s key c.args.quarters.now = subst (MayBeAsked shows s key) (sym c.requires.quarters_are) all in
-    let falls : 4 * key.level < t = omega (arith, c.decreases) in
+    let may : MayBeAsked shows s key c.args.quarters.now = subst (MayBeAsked shows s key) (sym c.requires.quarters.quarters_are) all in
+    let falls : 5 * key.level < t = omega (arith, c.decreases) in
     (falls, (within.0, (within.1.0, (within.1.1.0, (within.1.1.1.0, (within.1.1.1.1, (c.requires.level, may)))))))
 
-pub make_of_parts-combine_parts-requires : goal.make_of_parts-combine_parts-requires
-make_of_parts-combine_parts-requires g t c =
+pub below::Below::make_of_parts-combine_parts-requires : goal.below::Below::make_of_parts-combine_parts-requires
+below::Below::make_of_parts-combine_parts-requires g t c =
     let key = c.args.key.now in
     record {
-      known = c.requires.known;
-      source = c.requires.source;
-      fits = c.requires.fits;
-      level = c.requires.level;
+      known = c.requires.quarters.known;
+      source = c.requires.quarters.source;
+      fits = c.requires.quarters.fits;
+      level = c.requires.quarters.level;
       values_are = subst (λ (ks : List SumKey). AreValuesOf g.J.System.pictures c.args.shape.now
-          (g.J.System.stable key.name × IsTrue g.J.System.honest) ks c.in-Ok.values.items) c.requires.quarters_are
+          (g.J.System.stable key.name × IsTrue g.J.System.honest) ks c.in-Ok.values.items) c.requires.quarters.quarters_are
           c.in-Ok.ensures.values;
     }

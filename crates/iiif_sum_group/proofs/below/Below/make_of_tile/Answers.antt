@@ -7,7 +7,7 @@ use Rattle.iiif_keys.specs.declared.keys.Shape.{Shape}
 use Rattle.iiif_keys.specs.declared.keys.TileKey.{TileKey}
 use Rattle.iiif_keys.specs.declared.values.TileVal.{TileVal}
 use Rattle.iiif_sum_group.proofs.CountLemmas.{below_of_tile}
-use Rattle.iiif_sum_group.proofs.groups.Groups.make_of_tile.Goals as goal
+use Rattle.iiif_sum_group.proofs.below.Below.make_of_tile.Goals as goal
 
 pub of_tile-requires-clause-tile : goal.of_tile-requires-clause-tile
 of_tile-requires-clause-tile g c =

@@ -2,11 +2,11 @@ use Rattle.std.proofs.Common.{◌≡◌, ◌*◌, ◌+◌, ◌-◌, ◌≤◌, t
 use Rattle.std.specs.Prelude.{◌^◌, IsTrue}
 use Rattle.iiif_sum_group.specs.Below.{blocks_below}
 use Rattle.iiif_sum_group.specs.Values.{AreValuesOf}
-use Rattle.iiif_sum_group.proofs.groups.Groups.+sums.Given as goal
+use Rattle.iiif_sum_group.proofs.+sums.Given as goal
 
 -- the parts so far
-abbrev pub invariant-ask_parts-loop-part : goal.invariant-ask_parts-loop-part
-invariant-ask_parts-loop-part g l =
+abbrev pub invariant-below::Below::ask_parts-loop-part : goal.invariant-below::Below::ask_parts-loop-part
+invariant-below::Below::ask_parts-loop-part g l =
     record {
       values : AreValuesOf g.J.System.pictures l.shape (g.J.System.stable l.key.name × IsTrue g.J.System.honest) (take l.part-index l.keys)
           l.values.items;
@@ -19,14 +19,17 @@ invariant-ask_parts-loop-part g l =
     }
 
 -- the level falls from a sum to its parts, and a sum is made for its own flight
-abbrev pub decreases-ask_part : goal.decreases-ask_part
-decreases-ask_part g l = 4 * l.key.now.level + 3
+abbrev pub decreases-below::Below::ask_part : goal.decreases-below::Below::ask_part
+decreases-below::Below::ask_part g l = 5 * l.key.now.level + 4
 
-abbrev pub decreases-make : goal.decreases-make
-decreases-make g l = 4 * l.key.now.level + 2
+abbrev pub decreases-groups::Groups::enter : goal.decreases-groups::Groups::enter
+decreases-groups::Groups::enter g l = 5 * l.key.now.level + 3
 
-abbrev pub decreases-make_of_parts : goal.decreases-make_of_parts
-decreases-make_of_parts g l = 4 * l.key.now.level + 1
+abbrev pub decreases-below::Below::make : goal.decreases-below::Below::make
+decreases-below::Below::make g l = 5 * l.key.now.level + 2
 
-abbrev pub decreases-ask_parts : goal.decreases-ask_parts
-decreases-ask_parts g l = 4 * l.key.now.level
+abbrev pub decreases-below::Below::make_of_parts : goal.decreases-below::Below::make_of_parts
+decreases-below::Below::make_of_parts g l = 5 * l.key.now.level + 1
+
+abbrev pub decreases-below::Below::ask_parts : goal.decreases-below::Below::ask_parts
+decreases-below::Below::ask_parts g l = 5 * l.key.now.level
