@@ -10,6 +10,7 @@ mod crossed_tests;
 mod crossings;
 mod cut_tests;
 mod doorways;
+mod ends;
 mod keys;
 mod link_memory_tests;
 mod link_tcp_tests;

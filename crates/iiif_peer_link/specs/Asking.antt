@@ -12,39 +12,46 @@ use Rattle.iiif_keys.specs.declared.fault.KeyFault.{KeyFault}
 use Rattle.iiif_group.specs.declared.link.LinkFault.{LinkFault}
 use Rattle.iiif_group.specs.declared.link.LinkFault.TheVariants.{Wire, Refused, Value}
 
--- What became of an ask. cut: it was cut off, and the writer failed. sent: it was written whole. failed: the reader failed.
--- before, after: what the reader had and has left.
+-- An ask was written whole: the writer, as that left it, turned into a reader.
+pub record WasSent {W I : Type 0} (contents : W → Option (List ℕ)) (turned : W → I → Type 0) (out : W) (text : List ℕ) (reader : I) : Type 0
+  where
+    pub written : W
+    pub sent : Appends (contents out) (contents written) text
+    pub turned_into : turned written reader
+
+-- What became of an ask. cut: it was cut off, and the writer failed. came: it was written whole, and then the reader had the first bytes
+-- and has the second left. failed: it was written whole, and the reader failed.
 pub record Terms : Type 1 where
   pub cut : Type 0
-  pub sent : Type 0
+  pub came : Option (List ℕ) → Option (List ℕ) → Type 0
   pub failed : Type 0
-  pub before : Option (List ℕ)
-  pub after : Option (List ℕ)
   pub version : Version
   pub key : List ℕ
 
--- the same of a writer and a reader, by their states before and after
-abbrev pub terms : {W I : Type 0} → (W → Option (List ℕ)) → (W → W → Type 0) → (I → Option (List ℕ)) → (I → I → Type 0) → W → W → I → I →
-    Version → ℕ → List ℕ → Terms
-terms contents writer_fails remaining reader_fails out_old out_new reader_old reader_new version group key = record {
-  cut = (count : ℕ) × WasCut contents writer_fails out_old out_new (ask_text version group key) count;
-  sent = Appends (contents out_old) (contents out_new) (ask_text version group key);
-  failed = LeftAt reader_fails reader_new;
-  before = remaining reader_old;
-  after = remaining reader_new;
+-- the same of a writer in this state that turns into a reader
+abbrev pub terms : {W I : Type 0} → (W → Option (List ℕ)) → (W → W → Type 0) → (W → I → Type 0) → (I → Option (List ℕ)) → (I → I → Type 0) →
+    W → Version → ℕ → List ℕ → Terms
+terms {W} {I} contents writer_fails turned remaining reader_fails out version group key = record {
+  cut = (last : W) × (count : ℕ) × WasCut contents writer_fails out last (ask_text version group key) count;
+  came = λ before after. (first : I) × (last : I) × WasSent contents turned out (ask_text version group key) first
+      × (before ≡ remaining first) × (after ≡ remaining last);
+  failed = (first : I) × (last : I) × WasSent contents turned out (ask_text version group key) first × LeftAt reader_fails last;
   version = version;
   key = key;
 }
 
--- the bytes that the reader has are no reply of the ask's version for its key, and this is the first refusal
+-- the bytes that the reader had are no reply of the ask's version for its key, and this is the first refusal
 abbrev pub Refuses : Terms → WireFault → Type 0
-Refuses t fault = t.sent × ((input : List ℕ) × IsInput t.before input × (reply_at t.version t.key input ≡ Err fault))
+Refuses t fault = (before : Option (List ℕ)) × (after : Option (List ℕ)) × t.came before after
+    × ((input : List ℕ) × IsInput before input × (reply_at t.version t.key input ≡ Err fault))
 
 -- a reply of this status and value was read, and nothing more
 pub record Replied (t : Terms) (status : ℕ) (value : List ℕ) : Type 0 where
-  pub sent : t.sent
+  pub before : Option (List ℕ)
+  pub after : Option (List ℕ)
+  pub came : t.came before after
   pub spelled : IsReply t.key status value
-  pub took : Consumes t.before t.after (reply_text t.version t.key status value)
+  pub took : Consumes before after (reply_text t.version t.key status value)
 
 -- Why an ask was not written or its reply not read.
 abbrev pub WireFailed : Terms → WireFault → Type 0
@@ -54,8 +61,9 @@ WireFailed t Long = Refuses t Long
 WireFailed t Key = Refuses t Key
 WireFailed t Digest = Refuses t Digest
 WireFailed t Status = Refuses t Status
-WireFailed t Io = t.cut ⊎ (t.sent × t.failed)
-WireFailed t NoMemory = t.sent × ((text : List ℕ) × IsFrontOfReply t.version t.key text × Consumes t.before t.after text)
+WireFailed t Io = t.cut ⊎ t.failed
+WireFailed t NoMemory = (before : Option (List ℕ)) × (after : Option (List ℕ)) × t.came before after
+    × ((text : List ℕ) × IsFrontOfReply t.version t.key text × Consumes before after text)
 
 -- The ask was not written or its reply not read; or the reply is a fault of the other node, of this number.
 abbrev pub Failed : Terms → LinkFault → Type 0

@@ -1,6 +1,6 @@
 //! Looks at other nodes.
 
-use crate::timed::{Deadline, Timed};
+use crate::timed::Deadline;
 use iiif_breaker::Asks;
 use iiif_io::Inlet;
 use std::io;
@@ -29,11 +29,11 @@ fn meet<R: Net<Stream = TcpStream> + Clock>(
     limit: Duration,
 ) -> io::Result<()> {
     let deadline = Deadline::new(rt, limit)?;
-    let stream = TcpStream::connect_timeout(rt, address, deadline.left()?)?;
+    let mut stream = TcpStream::connect_timeout(rt, address, deadline.left()?)?;
     stream.shutdown(Shutdown::Write)?;
-    let mut reader = Timed { stream, deadline };
+    stream.set_read_timeout(Some(deadline.left()?))?;
     let mut byte = [0u8; 1];
-    reader.pull(&mut byte)?;
+    stream.pull(&mut byte)?;
     Ok(())
 }
 

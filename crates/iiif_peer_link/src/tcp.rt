@@ -1,85 +1,100 @@
 //! Links over TCP.
 
-ghost use Rattle.std.specs.Prelude.{◌≡◌, false};
+ghost use Rattle.std.specs.Prelude.{◌≡◌, [], IfOk, IsTrue, Some};
+ghost use Rattle.iiif_peer_wire.specs.Messages.{IsGroup};
+ghost use Rattle.iiif_peer_link.specs.Honest.{IsHonest, TellsOf};
+ghost use Rattle.iiif_peer_link.specs.Versions.{wire_version};
 
+use crate::connection::Connection;
 use crate::ends::outcome_of;
 use crate::health::Turn;
 use crate::lengths::{sum_reply_len, tile_reply_len};
 use crate::peer::{Peer, Stopwatch};
+use crate::reaches::Reaches;
 use crate::timed::{Deadline, Timed};
-use crate::values::{ask_sum_over, ask_tile_over};
-use crate::within::Within;
+use crate::values::ask_value_over;
 use iiif_group::{Link, LinkFault};
-use iiif_keys::{Shape, SumKey, SumVal, System, TileKey, TileVal};
+use iiif_keys::{CacheKey, Shape, SumKey, SumVal, System, TileKey, TileVal};
 use iiif_log::Log;
 use iiif_peer_wire::WireFault;
 use std::alloc::Global;
 use std::io;
 use std::io::ErrorKind;
 use std::marker::PhantomData;
-use std::net::{Net, TcpStream};
+use std::net::Net;
 use std::sync::Wait;
 use std::time::Clock;
 
 /// A way to a node that listens at an address and a port. Each ask connects anew, reads one reply and closes, all within the node's limit
 /// of time, and no more of it than the key's value can have. A node that fails is left alone for a while, as its [`Health`](crate::Health)
 /// says: then an ask fails at once. Its name is looked up where whoever made the node says so, and again, without a limit, by an ask that
-/// is to try it after another one did in vain. What the node says is never promised to be right, so a system that has links of this kind
-/// relies on no other node.
+/// is to try it after another one did in vain. Where J has honest nodes, the runtime R is to lead to them: what is written and read arrives
+/// as it was sent, and the nodes that it reaches answer what keys mean.
 #[derive(Drop)]
-pub struct TcpLink<'p, J: System> {
+pub struct TcpLink<'p, J: System, R: Reaches> {
     peer: &'p Peer,
     watch: &'p Stopwatch,
     log: Option<&'p Log>,
     alloc: Global,
     of: PhantomData<J>,
-    pub ghost unsure: { J.honest ≡ false },
-}
-
-/// A connection's two ends, within one limit of time.
-#[derive(Drop)]
-struct Open<'a, R: Clock> {
-    reader: Within<Timed<'a, R>>,
-    out: Timed<'a, R>,
+    over: PhantomData<R>,
+    pub ghost sure: { IsTrue J.honest → IsTrue R.keeps × IsHonest R.answers J.stable J.pictures },
 }
 
 /// A connection to the address of a turn, where one is known, to read at most so many bytes from.
-fn connect<'a, R: Net<Stream = TcpStream> + Clock>(
+fn connect<'a, R: Reaches + Clock>(
     rt: &'a R,
     deadline: &Deadline<'a, R>,
     turn: &Turn,
     most: u64,
-) -> io::Result<Open<'a, R>> {
+) -> io::Result<Connection<'a, R>>
+    ensures { IsTrue R.keeps → IfOk result (λ c. R.written c.out.line ≡ Some []) }
+{
     let Some(address) = turn.address else {
         return Err(io::Error::from(ErrorKind::NotFound));
     };
-    let stream = TcpStream::connect_timeout(rt, &address, deadline.left()?)?;
-    stream.set_nodelay(true)?;
-    let copy = stream.try_clone()?;
-    Ok(Open {
-        reader: Within {
-            inner: Timed {
-                stream,
-                deadline: deadline.again(),
-            },
-            left: most as usize,
-        },
+    let line = rt.connect(&address, deadline.left()?)?;
+    Ok(Connection {
         out: Timed {
-            stream: copy,
+            line,
             deadline: deadline.again(),
         },
+        most: most as usize,
     })
 }
 
-impl<'p, J: System> TcpLink<'p, J> {
+/// Asks the node at the address of a turn, on a connection of its own, for the value of a key that fits an image of this shape, in a group,
+/// in the version of the image's depth. At most so many bytes of the reply are read.
+fn ask_at<'a, K: CacheKey, R: Reaches + Clock>(
+    alloc: Global,
+    rt: &'a R,
+    at: (&Deadline<'a, R>, &Turn),
+    group: u8,
+    key: &K,
+    shape: &Shape,
+    most: u64,
+) -> Result<K::Value, LinkFault>
+    requires group { IsGroup group }
+    requires fits { K.fits_in shape.now key.now }
+    ensures { (m : K.Value) → IsTrue R.keeps → TellsOf R.answers K.is_value K.val_bytes (wire_version shape.now.depth) group
+        (K.key_bytes key.now) m → IfOk result (λ v. v ≡ m) }
+{
+    let (deadline, turn) = at;
+    match connect(rt, deadline, turn, most) {
+        Ok(connection) => ask_value_over(alloc, connection, group, key, shape),
+        Err(_) => Err(LOST),
+    }
+}
+
+impl<'p, J: System, R: Reaches> TcpLink<'p, J, R> {
     /// A link to a node. How long its asks take is counted by the stopwatch, and what becomes of it is told to the log, where there is one.
     pub fn new(
         alloc: Global,
         peer: &'p Peer,
         watch: &'p Stopwatch,
         log: Option<&'p Log>,
-    ) -> TcpLink<'p, J>
-        requires { J.honest ≡ false }
+    ) -> TcpLink<'p, J, R>
+        requires { IsTrue J.honest → IsTrue R.keeps × IsHonest R.answers J.stable J.pictures }
     {
         TcpLink {
             peer,
@@ -87,17 +102,21 @@ impl<'p, J: System> TcpLink<'p, J> {
             log,
             alloc,
             of: PhantomData,
+            over: PhantomData,
         }
     }
 
     /// Takes in how the ask of a turn ended.
-    fn report<R: Clock + Wait, V>(
+    fn report<V>(
         &self,
         rt: &R,
         turn: &Turn,
         deadline: &Deadline<'_, R>,
         came: &Result<V, LinkFault>,
-    ) {
+    )
+    where
+        R: Clock + Wait,
+    {
         let Some(outcome) = outcome_of(came, deadline.left().is_err()) else {
             return;
         };
@@ -110,41 +129,23 @@ impl<'p, J: System> TcpLink<'p, J> {
 /// The fault of an ask that came to nothing.
 const LOST: LinkFault = LinkFault::Wire(WireFault::Io);
 
-impl<'p, J: System, R: Net<Stream = TcpStream> + Clock + Wait> Link<TileKey, J, R>
-    for TcpLink<'p, J> {
+impl<'p, J: System, R: Reaches + Net + Clock + Wait> Link<TileKey, J, R> for TcpLink<'p, J, R> {
     fn ask(&self, rt: &R, key: &TileKey, shape: &Shape) -> Result<TileVal, LinkFault> {
         let turn = self.peer.begin(rt, self.alloc).ok_or(LOST)?;
         let deadline = Deadline::new(rt, self.peer.limit()).map_err(|_| LOST)?;
-        let came = match connect(rt, &deadline, &turn, tile_reply_len(key, shape)) {
-            Ok(open) => {
-                let Open {
-                    mut reader,
-                    mut out,
-                } = open;
-                ask_tile_over(self.alloc, &mut reader, &mut out, key, shape)
-            }
-            Err(_) => Err(LOST),
-        };
+        let most = tile_reply_len(key, shape);
+        let came = ask_at(self.alloc, rt, (&deadline, &turn), 1, key, shape, most);
         self.report(rt, &turn, &deadline, &came);
         came
     }
 }
 
-impl<'p, J: System, R: Net<Stream = TcpStream> + Clock + Wait> Link<SumKey, J, R>
-    for TcpLink<'p, J> {
+impl<'p, J: System, R: Reaches + Net + Clock + Wait> Link<SumKey, J, R> for TcpLink<'p, J, R> {
     fn ask(&self, rt: &R, key: &SumKey, shape: &Shape) -> Result<SumVal, LinkFault> {
         let turn = self.peer.begin(rt, self.alloc).ok_or(LOST)?;
         let deadline = Deadline::new(rt, self.peer.limit()).map_err(|_| LOST)?;
-        let came = match connect(rt, &deadline, &turn, sum_reply_len(key, shape)) {
-            Ok(open) => {
-                let Open {
-                    mut reader,
-                    mut out,
-                } = open;
-                ask_sum_over(self.alloc, &mut reader, &mut out, key, shape)
-            }
-            Err(_) => Err(LOST),
-        };
+        let most = sum_reply_len(key, shape);
+        let came = ask_at(self.alloc, rt, (&deadline, &turn), 2, key, shape, most);
         self.report(rt, &turn, &deadline, &came);
         came
     }

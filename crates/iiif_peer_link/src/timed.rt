@@ -1,9 +1,11 @@
-//! A stream with a limit of time for all that is read and written.
+//! A connection with a limit of time for all that is read and written.
 
+ghost use Rattle.std.specs.Prelude.{◌≡◌};
+
+use crate::reaches::Reaches;
 use iiif_io::{Inlet, Outlet};
 use std::io;
 use std::io::{ErrorKind, Read, Write};
-use std::net::TcpStream;
 use std::time::{Clock, Duration, Instant};
 
 /// When something is to have ended.
@@ -22,6 +24,13 @@ impl<'a, R: Clock> Deadline<'a, R> {
             start: Instant::now(rt)?,
             limit,
         })
+    }
+
+    /// The runtime whose clock it goes by.
+    pub fn runtime(&self) -> &'a R
+        ensures { result ≡ self.now.rt }
+    {
+        self.rt
     }
 
     /// The same end.
@@ -50,23 +59,24 @@ impl<'a, R: Clock> Deadline<'a, R> {
     }
 }
 
-/// A stream whose reads and writes fail once its time is up, however few bytes come at once.
+/// A connection to a node, whose reads and writes fail once its time is up, however few bytes come at once.
 #[derive(Drop)]
-pub struct Timed<'a, R: Clock> {
-    pub stream: TcpStream,
+pub struct Timed<'a, R: Reaches + Clock> {
+    pub line: R::Line,
     pub deadline: Deadline<'a, R>,
 }
 
-impl<'a, R: Clock> Read for Timed<'a, R> {
+impl<'a, R: Reaches + Clock> Read for Timed<'a, R> {
+    ghost remaining = { λ t. R.unread t.line };
+
     fn read(&mut self, buffer: &mut [u8]) -> io::Result<usize> {
         let left = self.deadline.left()?;
-        self.stream.set_read_timeout(Some(left))?;
-        self.stream.pull(buffer)
+        self.deadline.rt.pull(&mut self.line, left, buffer)
     }
 }
 
 /// Nothing is known but that a read failed.
-impl<'a, R: Clock> Inlet for Timed<'a, R> {
+impl<'a, R: Reaches + Clock> Inlet for Timed<'a, R> {
     ghost fails = { λ _ _. Unit {0} };
 
     fn pull(&mut self, buffer: &mut [u8]) -> io::Result<usize> {
@@ -74,11 +84,12 @@ impl<'a, R: Clock> Inlet for Timed<'a, R> {
     }
 }
 
-impl<'a, R: Clock> Write for Timed<'a, R> {
+impl<'a, R: Reaches + Clock> Write for Timed<'a, R> {
+    ghost contents = { λ t. R.written t.line };
+
     fn write(&mut self, bytes: &[u8]) -> io::Result<usize> {
         let left = self.deadline.left()?;
-        self.stream.set_write_timeout(Some(left))?;
-        self.stream.put(bytes)
+        self.deadline.rt.put(&mut self.line, left, bytes)
     }
 
     fn flush(&mut self) -> io::Result<()> {
@@ -87,7 +98,7 @@ impl<'a, R: Clock> Write for Timed<'a, R> {
 }
 
 /// Nothing is known but that a write failed.
-impl<'a, R: Clock> Outlet for Timed<'a, R> {
+impl<'a, R: Reaches + Clock> Outlet for Timed<'a, R> {
     ghost fails = { λ _ _. Unit {0} };
 
     fn put(&mut self, bytes: &[u8]) -> io::Result<usize> {

@@ -4,14 +4,15 @@ use crate::fixtures::messages::{
     DEEP_ASK, DEEP_REPLY, DEEP_VALUE, TILE_ASK, TILE_REPLY, TILE_VALUE,
 };
 use crate::fixtures::{is_missing, is_same, is_same_text, is_unwanted};
+use crate::group::ends::Ends;
 use crate::group::keys::{
     DEEP, DEEP_REPLY_ONE, OTHER_REPLY, SAMPLE, SHORT_VALUE_REPLY, SUM_ASK, SUM_REPLY, SUM_VALUE,
     UNKNOWN_REPLY, block, tile,
 };
 use iiif_group::LinkFault;
 use iiif_io::fakes::{FailingReader, FailingWriter};
-use iiif_keys::{CacheKey, Shape, SumKey, TileKey};
-use iiif_peer_link::{ask_over, ask_sum_over, ask_tile_over};
+use iiif_keys::{CacheKey, Shape};
+use iiif_peer_link::{ask_over, ask_value_over};
 use iiif_peer_wire::{Version, WireFault};
 use std::alloc::Global;
 
@@ -26,46 +27,29 @@ enum Of {
 /// The result of an ask: the bytes of its value, or the fault. None where the key doesn't fit, or memory was wanted.
 type Came = Option<Result<Vec<u8>, LinkFault>>;
 
-/// Asks for a tile.
-fn tile_came(
+/// Asks for the value of a key in a group.
+fn value_came<K: CacheKey>(
     alloc: Global,
-    key: &TileKey,
+    group: u8,
+    key: &K,
     shape: &Shape,
-    input: &mut FailingReader<'_>,
-    out: &mut FailingWriter,
+    ends: Ends<'_, '_>,
 ) -> Came {
     if !key.fits(2, shape) {
         return None;
     }
-    match ask_tile_over(alloc, input, out, key, shape) {
-        Ok(value) => Some(Ok(TileKey::value_bytes(alloc, &value).ok()?)),
-        Err(fault) => Some(Err(fault)),
-    }
-}
-
-/// Asks for sums.
-fn sum_came(
-    alloc: Global,
-    key: &SumKey,
-    shape: &Shape,
-    input: &mut FailingReader<'_>,
-    out: &mut FailingWriter,
-) -> Came {
-    if !key.fits(2, shape) {
-        return None;
-    }
-    match ask_sum_over(alloc, input, out, key, shape) {
-        Ok(value) => Some(Ok(SumKey::value_bytes(alloc, &value).ok()?)),
+    match ask_value_over(alloc, ends, group, key, shape) {
+        Ok(value) => Some(Ok(K::value_bytes(alloc, &value).ok()?)),
         Err(fault) => Some(Err(fault)),
     }
 }
 
 /// Asks for either.
-fn came(alloc: Global, of: &Of, input: &mut FailingReader<'_>, out: &mut FailingWriter) -> Came {
+fn came(alloc: Global, of: &Of, ends: Ends<'_, '_>) -> Came {
     match of {
-        Of::Deep => tile_came(alloc, &tile(alloc, "g", (0, 0)).ok()?, &DEEP, input, out),
-        Of::Tile => tile_came(alloc, &tile(alloc, "a", (1, 1)).ok()?, &SAMPLE, input, out),
-        Of::Sum => sum_came(alloc, &block(alloc, 0, 0).ok()?, &SAMPLE, input, out),
+        Of::Deep => value_came(alloc, 1, &tile(alloc, "g", (0, 0)).ok()?, &DEEP, ends),
+        Of::Tile => value_came(alloc, 1, &tile(alloc, "a", (1, 1)).ok()?, &SAMPLE, ends),
+        Of::Sum => value_came(alloc, 2, &block(alloc, 0, 0).ok()?, &SAMPLE, ends),
     }
 }
 
@@ -79,13 +63,17 @@ fn is_right(
     wanted: Result<&[u8], LinkFault>,
 ) -> bool {
     let (left, piece, reads) = reply;
-    let mut input = FailingReader { left, piece, reads };
+    let reader = FailingReader { left, piece, reads };
     let mut out = FailingWriter {
         taken: Vec::new(alloc),
         room,
         piece: 5,
     };
-    let came = came(alloc, of, &mut input, &mut out);
+    let ends = Ends {
+        out: &mut out,
+        reader,
+    };
+    let came = came(alloc, of, ends);
     let ask = match of {
         Of::Deep => DEEP_ASK,
         Of::Tile => TILE_ASK,
@@ -191,7 +179,7 @@ fn ask_cut_after_each_byte(rt: HostRuntime) {
 
 #[test]
 fn key_of_bytes_is_asked_for(rt: HostRuntime) {
-    let mut input = FailingReader {
+    let reader = FailingReader {
         left: b"IGR1\0\0\0\x01k\x02\0\0\0\0\x82",
         piece: 4096,
         reads: 1000,
@@ -201,7 +189,11 @@ fn key_of_bytes_is_asked_for(rt: HostRuntime) {
         room: 100,
         piece: 5,
     };
-    let came = ask_over(rt.alloc(), &mut input, &mut out, Version::One, 2, b"k");
+    let ends = Ends {
+        out: &mut out,
+        reader,
+    };
+    let came = ask_over(rt.alloc(), ends, Version::One, 2, b"k");
     let is_short = matches!(came, Err(LinkFault::Wire(WireFault::Short)));
     assert!(rt; is_short && is_same_text(out.taken.as_slice(), b"IGA1\x02\0\0\0\x01k"));
 }

@@ -9,7 +9,7 @@ use iiif_breaker::{Asks, State};
 use iiif_group::{Link, LinkFault, NoLink};
 use iiif_keys::{CacheKey, Shape, System, TileKey};
 use iiif_log::{Log, write_lines};
-use iiif_peer_link::{Deadline, Peer, Stopwatch, TcpLink};
+use iiif_peer_link::{Deadline, Peer, Reaches, Stopwatch, TcpLink};
 use iiif_peer_wire::{Version, WireFault, read_ask};
 use iiif_pixel::{Depth, Dim, Kind};
 use std::alloc::Global;
@@ -91,12 +91,12 @@ impl<'a, R: Clock> Act<R> for Taker<'a> {
 }
 
 /// A link to a node.
-fn link_to<'p>(
+fn link_to<'p, R: Reaches>(
     alloc: Global,
     peer: &'p Peer,
     watch: &'p Stopwatch,
     log: Option<&'p Log>,
-) -> TcpLink<'p, Deep> {
+) -> TcpLink<'p, Deep, R> {
     TcpLink::new(alloc, peer, watch, log)
 }
 
@@ -306,7 +306,7 @@ fn is_left_alone_and_tried<R>(
     rt: &R,
     alloc: Global,
     listener: &TcpListener,
-    link: &TcpLink<'_, Deep>,
+    link: &TcpLink<'_, Deep, R>,
 ) -> bool
 where
     R: Net<Listener = TcpListener, Stream = TcpStream> + Threads + Wait + Clock + Sync,

@@ -2,10 +2,11 @@
 
 use crate::group::bars::Bar;
 use crate::group::calls::Numbers;
+use crate::group::ends::Ends;
 use iiif_group::{Link, LinkFault, NoLink};
 use iiif_io::fakes::{FailingReader, FailingWriter};
-use iiif_keys::{Shape, SumKey, SumVal, System, TileKey, TileVal};
-use iiif_peer_link::{Peer as Node, Stopwatch, TcpLink, ask_sum_over, ask_tile_over};
+use iiif_keys::{CacheKey, Shape, SumKey, SumVal, System, TileKey, TileVal};
+use iiif_peer_link::{Peer as Node, Stopwatch, TcpLink, ask_value_over};
 use iiif_peer_wire::WireFault;
 use iiif_pixel::{Dim, Kind, Raster, Samples};
 use std::alloc::Global;
@@ -79,24 +80,29 @@ impl<'a, J: System> Peer<'a, J> {
     }
 }
 
-/// The ends of a connection in memory: the one that is read from, and the one that is written to.
-fn ends(
+/// Asks over a connection in memory, with this reply, so many reads and so much room for the ask.
+fn ask_in_memory<K: CacheKey>(
     alloc: Global,
-    reply: &'static [u8],
-    reads: usize,
-    room: usize,
-) -> (FailingReader<'static>, FailingWriter) {
+    (reply, reads, room): (&'static [u8], usize, usize),
+    group: u8,
+    key: &K,
+    shape: &Shape,
+) -> Result<K::Value, LinkFault> {
     let reader = FailingReader {
         left: reply,
         piece: 1,
         reads,
     };
-    let out = FailingWriter {
+    let mut out = FailingWriter {
         taken: Vec::new(alloc),
         room,
         piece: 5,
     };
-    (reader, out)
+    let ends = Ends {
+        out: &mut out,
+        reader,
+    };
+    ask_value_over(alloc, ends, group, key, shape)
 }
 
 /// A gray tile of four samples, of 2 by 2 or of 4 by 1.
@@ -125,13 +131,12 @@ impl<'a, J: System, R: Net<Stream = TcpStream> + Clock + Wait> Link<TileKey, J, 
                 given(self.alloc, *is_wide)
             }
             Way::Cut { reply, reads, room } => {
-                let (mut reader, mut out) = ends(self.alloc, reply, *reads, *room);
-                ask_tile_over(self.alloc, &mut reader, &mut out, key, shape)
+                ask_in_memory(self.alloc, (reply, *reads, *room), 1, key, shape)
             }
             Way::Tcp(listener) => {
                 let node = self.behind(rt, listener)?;
                 let watch = Stopwatch::new();
-                let link: TcpLink<'_, J> = TcpLink::new(self.alloc, &node, &watch, None);
+                let link: TcpLink<'_, J, R> = TcpLink::new(self.alloc, &node, &watch, None);
                 link.ask(rt, key, shape)
             }
         }
@@ -145,13 +150,12 @@ impl<'a, J: System, R: Net<Stream = TcpStream> + Clock + Wait> Link<SumKey, J, R
                 Link::<SumKey, J, R>::ask(&NoLink, rt, key, shape)
             }
             Way::Cut { reply, reads, room } => {
-                let (mut reader, mut out) = ends(self.alloc, reply, *reads, *room);
-                ask_sum_over(self.alloc, &mut reader, &mut out, key, shape)
+                ask_in_memory(self.alloc, (reply, *reads, *room), 2, key, shape)
             }
             Way::Tcp(listener) => {
                 let node = self.behind(rt, listener)?;
                 let watch = Stopwatch::new();
-                let link: TcpLink<'_, J> = TcpLink::new(self.alloc, &node, &watch, None);
+                let link: TcpLink<'_, J, R> = TcpLink::new(self.alloc, &node, &watch, None);
                 link.ask(rt, key, shape)
             }
         }

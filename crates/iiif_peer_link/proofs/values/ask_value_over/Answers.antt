@@ -1,4 +1,4 @@
-use Rattle.std.proofs.Common.{rules, ◌≤◌, ◌<◌, ◌^◌, length, arith}
+use Rattle.std.proofs.Common.{rules, ◌<◌, ◌^◌}
 use Rattle.iiif_peer_link.proofs.values.ask_value_over.Goals as goal
 
 pub ask_over-requires : goal.ask_over-requires
