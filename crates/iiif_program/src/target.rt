@@ -1,6 +1,6 @@
 //! The answer to the one target of the words.
 
-ghost use Rattle.std.specs.Prelude.{◌≡◌, ◌<◌, ◌^◌, ℕ, List, Some, None, false};
+ghost use Rattle.std.specs.Prelude.{◌≡◌, ◌<◌, ◌^◌, ℕ, List, Some, None, IsTrue};
 ghost use Rattle.iiif_source.specs.declared.ReadFault.{ReadFault};
 ghost use Rattle.iiif_tile_group.specs.Collection.{item_named};
 ghost use Rattle.iiif_tile_group.specs.Named.{gave_of, pictures_of};
@@ -8,6 +8,7 @@ ghost use Rattle.iiif_start.specs.Stored.{bytes_of, keeps_of, stored_gave};
 ghost use Rattle.iiif_answers.specs.Settings.{refusal_of};
 ghost use Rattle.iiif_program.specs.Lines.{settings_in};
 ghost use Rattle.iiif_keys.specs.Ledgers.{all_parts};
+ghost use Rattle.iiif_peer_link.specs.Honest.{IsHonest};
 
 use crate::alone::answer_alone;
 use crate::makings::{Makings, open_makings, watcher_of};
@@ -18,6 +19,7 @@ use iiif_connections::{Watcher, among};
 use iiif_io::Outlet;
 use iiif_keys::{PARTS, System};
 use iiif_open_files::Opens;
+use iiif_peer_link::Reaches;
 use iiif_start::Stop;
 use std::alloc::Global;
 use std::io::Write;
@@ -92,6 +94,7 @@ fn write_one_among<'a, R, O, J: System + Send + Sync>(
 ) -> Result<(), Stop<'a>>
 where
     R: Opens
+        + Reaches
         + Net<Listener = TcpListener, Stream = TcpStream>
         + Threads
         + Wait
@@ -103,11 +106,11 @@ where
     requires pictures { (name : List ℕ) → J.pictures name ≡ pictures_of (bytes_of R.holds) made.catalogue name }
     requires gave { (name : List ℕ) (f : ReadFault) → J.gave name f ≡ gave_of stored_gave made.catalogue name f }
     requires stable { (name : List ℕ) (item : _) → item_named made.catalogue name ≡ Some item → J.stable name →
-        ∥ keeps_of R.keeps item.source ∥₁ }
-    requires kept { (name : List ℕ) (item : _) → item_named made.catalogue name ≡ Some item → keeps_of R.keeps item.source →
+        ∥ keeps_of R.Opens.keeps item.source ∥₁ }
+    requires kept { (name : List ℕ) (item : _) → item_named made.catalogue name ≡ Some item → keeps_of R.Opens.keeps item.source →
         J.stable name }
     requires edge { made.config.edge ≡ J.edge }
-    requires honest { J.honest ≡ false }
+    requires honest { IsTrue J.honest → IsTrue R.Reaches.keeps × IsHonest R.answers J.stable J.pictures }
     requires tiles { (blanks.0.name ≡ J.tiles_name) × (blanks.0.parts ≡ J.tiles_parts) × (J.tiles_parts ≡ all_parts) }
     requires sums { (blanks.1.name ≡ J.sums_name) × (blanks.1.parts ≡ J.sums_parts) × (J.sums_parts ≡ all_parts) }
 {
