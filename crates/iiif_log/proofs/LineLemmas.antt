@@ -170,7 +170,7 @@ lines_are_lines a text h (time, moment, is) =
     )
 
 -- the cause of a word, by its first two bytes
-cause_of : List ℕ → CutCause
+abbrev cause_of : List ℕ → CutCause
 cause_of [] = Viewer
 cause_of (a ∷ []) = Viewer
 cause_of (a ∷ b ∷ rest) =

@@ -1,4 +1,5 @@
 pub mod DotSegments
+pub mod Folders
 pub mod Held
 pub mod Parts
 pub mod Rooms

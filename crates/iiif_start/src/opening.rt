@@ -1,10 +1,12 @@
 //! The images that the words name.
 
-ghost use Rattle.std.specs.Prelude.{◌≡◌, ◌≤◌, ◌<◌, ◌++◌, ◌∷◌, [], IfOk, IfSome, OnOk, None, length, map, string_bytes, true, false};
+ghost use Rattle.std.specs.Prelude.{◌≡◌, ◌≤◌, ◌<◌, ◌⊎◌, ◌++◌, ◌∷◌, [], IfOk, IfSome, OnOk, None, codes, length, map};
+ghost use Rattle.std.specs.Prelude.{string_bytes, true, false};
 ghost use Rattle.std.specs.Arc.{arc_value};
 ghost use Rattle.std.specs.List.{AllZip};
 ghost use Rattle.iiif_tiff.specs.Tiff.{refusal_of, scheme};
 ghost use Rattle.iiif_tiff_read.specs.Layouts.{FitsIn};
+ghost use Rattle.iiif_start.specs.Folders.{IsImageIn};
 ghost use Rattle.iiif_start.specs.Parts.{Parts};
 ghost use Rattle.iiif_start.specs.Stored.{bytes_of, is_held, keeps_of, IsItemOf, IsSourceOf};
 
@@ -41,16 +43,21 @@ where
     }
 }
 
+/// What stands between a folder's path and a file's name.
+fn separator_behind(folder: &str) -> &'static str
+    ensures { (result.now ≡ []) ⊎ (result.now ≡ codes "/") }
+{
+    if folder.ends_with('/') { "" } else { "/" }
+}
+
 /// A file of a folder as an image. None where its name is none of an image's.
-fn folder_image(
-    alloc: Global,
-    folder: &str,
-    file: &str,
-) -> Result<Option<FolderImage>, AllocError> {
+fn folder_image(alloc: Global, folder: &str, file: &str) -> Result<Option<FolderImage>, AllocError>
+    ensures { IfOk result (λ found. IfSome found (λ image. IsImageIn folder.now file.now image)) }
+{
     let Some(name) = name_of(file) else {
         return Ok(None);
     };
-    let slash = if folder.ends_with('/') { "" } else { "/" };
+    let slash = separator_behind(folder);
     Ok(Some(FolderImage {
         name: String::from_str(alloc, name)?,
         path: format!(in alloc; "{folder}{slash}{file}")?,

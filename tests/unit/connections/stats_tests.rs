@@ -70,7 +70,7 @@ static LINES: [&str; 20] = [
     "\niiif_answers_total{status=\"200\"} 2\n",
     "\niiif_answers_total{status=\"303\"} 0\n",
     "\niiif_answers_total{status=\"405\"} 1\n",
-    "\niiif_answers_cut_total 0\n",
+    "\niiif_answers_cut_total{cause=\"viewer\"} 0\n",
 ];
 
 /// Whether what is told begins as an answer with text does, and has those lines and the bytes that were answered.
