@@ -123,8 +123,7 @@ where
             return false;
         };
         let serving = Serving { rt, alloc, watch };
-        self.node
-            .serve_stream(&serving, passes.lend(), reader, out);
+        self.node.serve_stream(&serving, passes.lend(), reader, out);
         passes.give_back(rt, self.node);
         true
     }

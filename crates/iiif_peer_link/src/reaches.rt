@@ -40,7 +40,7 @@ pub trait Reaches {
     fn turn(&self, line: Self::Line) -> Self::Line
         ensures { IsTrue keeps → Carries answers (written line) (unread result) };
 
-    /// Reads some bytes into the buffer, as [`Inlet::pull`](iiif_io::Inlet::pull) does. It fails where none come within that time.
+    /// Reads some bytes into the buffer, as `Inlet::pull` does. It fails where none come within that time.
     fn pull(&self, line: &mut Self::Line, left: Duration, buffer: &mut [u8]) -> io::Result<usize>
         ensures bound { ReadsAtMost result buffer.new }
         ensures bytes { ReadConsumes (unread line.old) (unread line.new) result buffer.new };
