@@ -4,6 +4,7 @@ ghost use Rattle.std.specs.Prelude.{◌≡◌, ◌<◌, ◌≤◌, ◌^◌, fals
 ghost use Rattle.iiif_answers.specs.Outcomes.{IsReady};
 ghost use Rattle.iiif_answers.specs.Responses.{is_loaded};
 ghost use Rattle.iiif_answers.specs.declared.part.Part.TheVariants.{Body};
+ghost use Rattle.iiif_delivery.specs.Delivery.{MaySend, Sends};
 ghost use Rattle.iiif_server.specs.Answering.{FramesCall, FramesPart, SendsForCall, SendsForTarget};
 ghost use Rattle.iiif_server.specs.Answering.{SparesForCall, SparesForTarget, SparesUnlessImage};
 ghost use Rattle.iiif_server.specs.Asking.{IsFound, IsJobOn, PlansHead, PlansJob, SendsFor, WasAccepted, WasFound};
@@ -21,13 +22,13 @@ use iiif_answers::message::{message_of, refusal_message};
 use iiif_answers::outcome::{Outcome, outcome_of};
 use iiif_answers::sending::{send_fault, send_message};
 use iiif_answers::{Cause, Config, Cut, Part, Sent};
-use iiif_assemble::{Job, RenderContext};
-use iiif_delivery::{Sending, Stopped, send_image};
+use iiif_assemble::{Items, Job, RenderContext};
+use iiif_delivery::{Admission, Delivered, Sending, Stopped, send_image};
 use iiif_group_items::laws::groups_serve_jobs;
 use iiif_group_items::{GroupItems, JobQueue};
 use iiif_http_front::Call;
 use iiif_io::Outlet;
-use iiif_keys::{SumKey, System, TileKey};
+use iiif_keys::{SumKey, SumVal, System, TileKey, TileVal};
 use iiif_pixel::NoMemory;
 use iiif_request::Refusal;
 use iiif_source::Source;
@@ -55,6 +56,31 @@ fn job_queue(alloc: Global, workers: u32, nodes: usize) -> JobQueue {
     let most = jobs_at_a_time(workers);
     let light = if nodes > 1 { u32::MAX } else { most };
     JobQueue::new(alloc, light, most)
+}
+
+/// Sends an image as `send_image` does, and tells the peak how much was kept beside it.
+fn send_counted<
+    A: Items<TileKey, TileVal, P, R> + Sync,
+    B: Items<SumKey, SumVal, P, R> + Admission<R> + Sync,
+    P: Send,
+    R: Threads + Wait + Sync,
+    W: Outlet,
+>(
+    peak: &Peak,
+    context: &RenderContext<'_, A, B, R>,
+    passes: &mut [P],
+    sending: &Sending<'_>,
+    out: &mut W,
+) -> Result<Delivered, Stopped>
+    requires some { 0 < length passes.old }
+    requires sending { MaySend A.Items B.Items context.now sending.now }
+    ensures { Sends A.Items B.Items context.now sending.now W.contents W.fails out.old out.new result }
+{
+    let result = send_image(context, passes, sending, out);
+    if let Ok(delivered) = &result {
+        peak.raise(context.rt, delivered.kept);
+    }
+    result
 }
 
 /// A server. Clauses see what it was told, and its images. J says what the names of the images stand for, and which ledgers count
@@ -273,15 +299,12 @@ impl<
             kind: asked.accepted.kind,
             start: planned.head,
         };
-        match send_image(&context, passes, &sending, out) {
-            Ok(delivered) => {
-                self.kept.raise(host.rt, delivered.kept);
-                Ok(Sent {
-                    status: 200,
-                    bytes: delivered.bytes,
-                    held: delivered.held,
-                })
-            }
+        match send_counted(&self.kept, &context, passes, &sending, out) {
+            Ok(delivered) => Ok(Sent {
+                status: 200,
+                bytes: delivered.bytes,
+                held: delivered.held,
+            }),
             Err(Stopped::Writer(sent)) => Err(Cut {
                 sent,
                 cause: Cause::Writer,

@@ -11,8 +11,8 @@ use Rattle.iiif_server.proofs.SendingLemmas.{fails, file_head_some, fits_channel
 use Rattle.iiif_server.proofs.SendingLemmas.{sent_for, whole_allowed, writer_allowed}
 use Rattle.iiif_server.proofs.node.Node.send_job.Goals as goal
 
-pub send_image-requires-clause-sending : goal.send_image-requires-clause-sending
-send_image-requires-clause-sending g c κs within =
+pub send_counted-requires-clause-sending : goal.send_counted-requires-clause-sending
+send_counted-requires-clause-sending g c κs within =
     let item = item_of c.args.asked.now.entry.now in
     let a = c.args.asked.now.accepted.now in
     let of = c.requires.job in
@@ -45,7 +45,7 @@ returns-in-Ok g c q p is kind =
     whole_allowed s part g.S.Source.gave kept item q a p
     head
     g.W.Write.contents g.W.Outlet.fails c.requires.loaded c.requires.ready.quarters kind c.requires.head
-    made.0 c.args.out.now c.send_image.new.out c.in-Ok.delivered.bytes c.in-Ok.delivered.held sent made.2 made.3 held
+    made.0 c.args.out.now c.send_counted.new.out c.in-Ok.delivered.bytes c.in-Ok.delivered.held sent made.2 made.3 held
 
 pub returns-in-Err-Writer : goal.returns-in-Err-Writer
 returns-in-Err-Writer g c q p is kind =
@@ -60,7 +60,7 @@ returns-in-Err-Writer g c q p is kind =
     writer_allowed s part g.S.Source.gave kept item q a p
     head
     g.W.Write.contents g.W.Outlet.fails c.requires.loaded c.requires.ready.quarters kind c.requires.head
-    made.0 c.args.out.now c.send_image.new.out c.in-Err-Writer.sent sent made.2
+    made.0 c.args.out.now c.send_counted.new.out c.in-Err-Writer.sent sent made.2
 
 pub returns-then-sent-eq0 : goal.returns-then-sent-eq0
 returns-then-sent-eq0 g c q p is kind =
@@ -72,13 +72,13 @@ returns-then-sent-eq0 g c q p is kind =
     let failed = fails g.J.System.pictures g.J.System.gave g.J.System.stable g.J.System.edge g.S.Source.bytes g.S.Source.gave
     g.S.Source.keeps item a j _ _ c.args.asked.now.accepted.now.kind _ _ c.in-Err-Load.sent
     c.in-Err-Load.fault of (rw c.in-Err-Load.field-0-is at c.in-Err-Load.ensures.fault) in
-    let nothing = subst (λ (n : ℕ). Appends (g.W.Write.contents c.args.out.now) (g.W.Write.contents c.send_image.new.out)
+    let nothing = subst (λ (n : ℕ). Appends (g.W.Write.contents c.args.out.now) (g.W.Write.contents c.send_counted.new.out)
     (take n (head ++ file made.0 a.kind)))
     c.if-sent-eq0.true made.2.1 in
     none_allowed s part g.S.Source.gave kept item q a p
     head
     g.W.Write.contents g.W.Outlet.fails c.requires.loaded c.requires.ready.quarters kind c.requires.head
-    c.args.out.now c.send_image.new.out c.send_fault.new.out c.in-Err-Load.fault c.send_fault.result nothing failed c.send_fault.ensures
+    c.args.out.now c.send_counted.new.out c.send_fault.new.out c.in-Err-Load.fault c.send_fault.result nothing failed c.send_fault.ensures
 
 pub returns-else-sent-eq0 : goal.returns-else-sent-eq0
 returns-else-sent-eq0 g c q p is kind =
@@ -97,7 +97,7 @@ returns-else-sent-eq0 g c q p is kind =
     load_allowed s part g.S.Source.gave kept item q a p
     head
     g.W.Write.contents g.W.Outlet.fails c.requires.loaded c.requires.ready.quarters kind c.requires.head
-    made.0 c.args.out.now c.send_image.new.out c.in-Err-Load.sent front c.in-Err-Load.fault sent made.2.0 made.2.1
+    made.0 c.args.out.now c.send_counted.new.out c.in-Err-Load.sent front c.in-Err-Load.fault sent made.2.0 made.2.1
     (omega (arith, c.if-sent-eq0.false))
     (omega (
       arith,
