@@ -90,24 +90,23 @@ fn stock<'p, J: System, R: Reaches>(
 }
 
 /// A node that asks the watcher's others for the values of the keys that they own, whose groups have this room each. The names of the nodes
-/// are at most 64, and each stands once. The watcher is told of the asks. The blanks are those of tiles and of sums. The only error is lack
-/// of memory.
-pub fn among<'p, R: Opens + Reaches + Wait, J: System>(
+/// are at most 64, and each stands once. The watcher is told of the asks. The blanks are those of tiles and of sums. R opens the files, and
+/// W reaches the other nodes. The only error is lack of memory.
+pub fn among<'p, R: Opens + Wait, W: Reaches, J: System>(
     alloc: Global,
     config: Config,
     catalogue: Catalogue<R, Stored<R>>,
     watcher: &'p Watcher,
     room: Room,
     blanks: (Blank, Blank),
-) -> Result<Node<R, Stored<R>, J, TcpLink<'p, J, R>>, NoMemory>
+) -> Result<Node<R, Stored<R>, J, TcpLink<'p, J, W>>, NoMemory>
     requires pictures { (name : List ℕ) → J.pictures name ≡ pictures_of (bytes_of R.holds) catalogue name }
     requires gave { (name : List ℕ) (f : ReadFault) → J.gave name f ≡ gave_of stored_gave catalogue name f }
     requires stable { (name : List ℕ) (item : _) → item_named catalogue name ≡ Some item → J.stable name →
-        ∥ keeps_of R.Opens.keeps item.source ∥₁ }
-    requires kept { (name : List ℕ) (item : _) → item_named catalogue name ≡ Some item → keeps_of R.Opens.keeps item.source →
-        J.stable name }
+        ∥ keeps_of R.keeps item.source ∥₁ }
+    requires kept { (name : List ℕ) (item : _) → item_named catalogue name ≡ Some item → keeps_of R.keeps item.source → J.stable name }
     requires edge { config.edge ≡ J.edge }
-    requires honest { IsTrue J.honest → IsTrue R.Reaches.keeps × IsHonest R.answers J.stable J.pictures }
+    requires honest { IsTrue J.honest → IsTrue W.keeps × IsHonest W.answers J.stable J.pictures }
     requires tiles { (blanks.0.name ≡ J.tiles_name) × (blanks.0.parts ≡ J.tiles_parts) × (J.tiles_parts ≡ all_parts) }
     requires sums { (blanks.1.name ≡ J.sums_name) × (blanks.1.parts ≡ J.sums_parts) × (J.sums_parts ≡ all_parts) }
     ensures settings { IfOk result (λ n. n.settings ≡ config) }

@@ -136,7 +136,7 @@ where
         ..
     } = made;
     let (alloc, workers) = (rt.alloc(), config.workers());
-    match among::<R, J>(alloc, config, catalogue, post.watcher, room, blanks) {
+    match among::<R, R, J>(alloc, config, catalogue, post.watcher, room, blanks) {
         Ok(node) => serve_by(rt, &node, workers, post, err),
         Err(_) => Err(Stop::Memory),
     }

@@ -121,7 +121,7 @@ where
         ..
     } = made;
     let (alloc, workers) = (rt.alloc(), config.workers());
-    let Ok(node) = among::<R, J>(alloc, config, catalogue, watcher, room, blanks) else {
+    let Ok(node) = among::<R, R, J>(alloc, config, catalogue, watcher, room, blanks) else {
         return Err(Stop::Memory);
     };
     if one.hex {
