@@ -13,3 +13,4 @@ mod pace_tests;
 mod peer_tests;
 mod place_tests;
 mod refused_tests;
+mod writes;

@@ -10,6 +10,7 @@ use std::alloc::Global;
 use std::test::Fail;
 use writer::{Field, Form, PLAIN, write_file};
 
+mod byte_counter;
 mod device_tests;
 mod one_fault;
 mod wide_tests;

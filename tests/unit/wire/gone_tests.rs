@@ -4,11 +4,11 @@ use crate::fixtures::is_same;
 use crate::wire::echo::connected;
 use iiif_io::Outlet;
 use iiif_listener::{Flow, Pace, PacedWriter, Rate};
-use std::io::Write;
+use std::io::{Read, Write};
 use std::net::{Shutdown, TcpStream};
 use std::rt::HostRuntime;
 use std::thread;
-use std::time::Duration;
+use std::time::{Duration, Instant};
 
 /// As much as is taken of no one.
 const ANY: Rate = Rate {
@@ -70,6 +70,33 @@ fn peer_that_resets_is_gone(rt: HostRuntime) {
     drop(near);
     let found = gone(&rt, far);
     assert!(rt; matches!(found, Some((true, true))), "{found:?}");
+}
+
+/// How long a read of a silent peer's stream takes, which waits for 100 ms, once it was looked whether the peer is gone.
+fn read_behind_a_look(rt: &HostRuntime, stream: TcpStream) -> Option<Duration> {
+    stream
+        .set_read_timeout(Some(Duration::from_millis(100)))
+        .ok()?;
+    let mut waiting = stream.try_clone().ok()?;
+    let looked = gone(rt, stream)?;
+    let begun = Instant::now(rt).ok()?;
+    let failed = waiting.read(&mut [0]).is_err();
+    let waited = begun.elapsed(rt).ok()?;
+    (looked == (false, false) && failed).then_some(waited)
+}
+
+/// A stream that doesn't wait any more would cut a viewer that is slow.
+#[test]
+fn stream_of_a_peer_that_was_looked_for_waits_on(rt: HostRuntime) {
+    let Some((near, far)) = connected(&rt) else {
+        return;
+    };
+    let waited = read_behind_a_look(&rt, far);
+    drop(near);
+    assert!(rt;
+        matches!(waited, Some(time) if time >= Duration::from_millis(90)),
+        "{waited:?}"
+    );
 }
 
 /// Writes, the milliseconds and the bytes of each, and whether the answer goes on behind it, at 4 bytes a second over each 3 seconds.

@@ -1,5 +1,6 @@
 //! Bytes that reach a writer that fails, and that come of a reader that does.
 
+use super::writes::Writes;
 use crate::fixtures::{is_same, is_same_text};
 use iiif_io::fakes::{FailingReader, FailingWriter};
 use iiif_io::{CountingSink, FixedBuffer, Inlet, send, send_both};
@@ -51,6 +52,45 @@ fn writers_take_the_text_or_what_they_have_room_for(rt: HostRuntime) {
         assert!(rt; is_sent_by(rt.alloc(), piece), "pieces of {piece}");
     }
     assert!(rt; is_sent_to_a_vector(rt.alloc()));
+}
+
+/// The writes by which a writer is sent a text of fourteen bytes, of which it takes so many a write: no more than it needs.
+static SENDS: [(usize, &[usize]); 3] = [(100, &[14]), (14, &[14]), (5, &[14, 9, 4])];
+
+/// The writes by which a writer is sent a head of nineteen bytes and a body of four: the two go together until the head is taken.
+static SENDS_OF_BOTH: [(usize, &[usize]); 4] = [
+    (100, &[23]),
+    (21, &[23, 2]),
+    (19, &[23, 4]),
+    (7, &[23, 16, 9, 2]),
+];
+
+/// Whether a text is sent by these writes.
+fn is_sent_in(alloc: Global, piece: usize, writes: &[usize]) -> bool {
+    let mut out = Writes::new(alloc, piece);
+    send(&mut out, ASK).is_ok() && is_same(&out.sizes.as_slice(), &writes)
+}
+
+/// Whether a head and a body are sent by these writes.
+fn are_sent_in(alloc: Global, piece: usize, writes: &[usize]) -> bool {
+    let mut out = Writes::new(alloc, piece);
+    send_both(&mut out, HEAD, BODY).is_ok() && is_same(&out.sizes.as_slice(), &writes)
+}
+
+#[test]
+fn texts_are_sent_by_as_few_writes_as_the_writer_takes_them_in(rt: HostRuntime) {
+    for (piece, writes) in SENDS.iter() {
+        assert!(rt;
+            is_sent_in(rt.alloc(), *piece, *writes),
+            "pieces of {piece}"
+        );
+    }
+    for (piece, writes) in SENDS_OF_BOTH.iter() {
+        assert!(rt;
+            are_sent_in(rt.alloc(), *piece, *writes),
+            "pieces of {piece}"
+        );
+    }
 }
 
 /// How many bytes a read of up to four gives, and these.

@@ -1,8 +1,12 @@
 //! Devices that fail while files are read.
 
+use super::byte_counter::ByteCounter;
 use super::one_fault::OneFault;
 use super::writer::{Field, PLAIN, write_file};
-use super::{FOUR_ROWS, Failed, MIDDLE, TILED, TILES, WHOLE, read_part, shows};
+use super::{
+    BLACK_IS_ZERO, EIGHT_BITS, FOUR_ROWS, Failed, LENGTH, MIDDLE, ONE_ROW, ONE_SAMPLE, PLAINLY,
+    TILED, TILES, TWO_ROWS, WHOLE, WIDTH, read_part, shows,
+};
 use crate::fixtures::files::{SAMPLE, STEPS};
 use crate::fixtures::{is_missing, is_same, is_unwanted};
 use iiif_pixel::{Rect, Span};
@@ -92,15 +96,29 @@ struct Together {
     read: u64,
 }
 
-/// Four rows of a strip are the fourth read of all, and a tile is the sixth: two reads more are those of the tiles' offsets and byte
-/// counts.
-static TOGETHER: [Together; 2] = [
+/// Four rows of a strip are the fourth read of all; those of strips that stand one after another the fifth, behind one of the strips'
+/// offsets; and a tile is the sixth: two reads more are those of the tiles' offsets and byte counts.
+static TOGETHER: [Together; 4] = [
     Together {
         fields: FOUR_ROWS,
         bytes: &STEPS,
         rect: WHOLE,
         samples: &STEPS,
         read: 5,
+    },
+    Together {
+        fields: TWO_ROWS,
+        bytes: &STEPS,
+        rect: WHOLE,
+        samples: &STEPS,
+        read: 6,
+    },
+    Together {
+        fields: ONE_ROW,
+        bytes: &STEPS,
+        rect: WHOLE,
+        samples: &STEPS,
+        read: 6,
     },
     Together {
         fields: TILES,
@@ -130,4 +148,30 @@ fn rows_that_lie_together_are_one_read(rt: HostRuntime) {
     for (number, together) in TOGETHER.iter().enumerate() {
         assert!(rt; is_one_read(rt.alloc(), together), "file {number}");
     }
+}
+
+/// The picture in one strip, with twenty offsets and byte counts, of which the first ones count.
+const TWENTY_STRIPS: &[Field] = &[
+    WIDTH,
+    LENGTH,
+    EIGHT_BITS,
+    PLAINLY,
+    BLACK_IS_ZERO,
+    Field(273, 4, &[0; 20]),
+    ONE_SAMPLE,
+    Field(278, 3, &[4]),
+    Field(279, 4, &[16; 20]),
+];
+
+/// How many bytes are read of such a file until its whole picture is there; none where that isn't right.
+fn bytes_read(alloc: Global) -> Option<u64> {
+    let file = write_file(alloc, PLAIN, TWENTY_STRIPS, &STEPS)?;
+    let source = ByteCounter::new(MemSource::new(file));
+    shows(alloc, &source, Some(WHOLE), Span::Eight(&STEPS)).then_some(source.read())
+}
+
+/// The header has 8 bytes, the number of entries 2, the nine entries 12 each, one offset and one byte count 4 each, and the strip 16.
+#[test]
+fn no_more_bytes_are_read_than_are_needed(rt: HostRuntime) {
+    assert!(rt; is_same(&bytes_read(rt.alloc()), &Some(142)));
 }
