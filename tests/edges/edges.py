@@ -1,24 +1,28 @@
-"""The built program at its edges: words that aren't UTF-8 or that the parser refuses, outputs that take nothing, and reads that fail
-while it answers.
+"""The built program at its edges: words that aren't UTF-8 or that the parser refuses, outputs that take nothing, reads that fail while
+it answers, and system calls that a signal interrupts.
 
     /usr/bin/python3 tests/edges/edges.py --program crates/iiif_serve/out/iiif_serve
 
 Needs `cc`: `fail.c` is built and loaded in front of the C library, and fails the reads of an image's file from the first, the second and so
 on, until a run meets none. Then the start has to be refused, the answer has to be `L1 source`, or it is cut, the status 1 and the line
 `run: source`. So it is where one read alone fails of a file of whole tiles, for an image and an overview, whatever the bands and the
-workers: it isn't tried again. What must be said stands here, in the words of the manual page and docs/OPERATING.md. Prints how many runs
-there were; each that was wrong is named on standard error, and then the status is 1.
+workers: it isn't tried again. `interrupt.c` interrupts every second read of a socket and write to one or to an output: such a call is tried
+again, and nothing comes to anything else. What must be said stands here, in the words of the manual page and docs/OPERATING.md. Prints how
+many runs there were; each that was wrong is named on standard error, and then the status is 1.
 """
 import argparse
 import itertools
 import os
+import re
 import subprocess
 import sys
 import tempfile
+import time
 
 HERE = os.path.dirname(os.path.abspath(__file__))
 sys.path[:0] = [os.path.join(HERE, "..", name) for name in ("hostile", "found", "strangers")]
 import files  # noqa: E402
+import program as running  # noqa: E402
 from places import picture  # noqa: E402
 from requests import plain  # noqa: E402
 
@@ -90,11 +94,17 @@ def kind_of(got, own, in_hex):
     return "run: source" if got[0] == 1 and got[2] == b"run: source\n" and is_cut else None
 
 
+def built(room, name):
+    """A library of this folder that stands in front of the C library's functions."""
+    library = os.path.join(room, f"{name}.so")
+    if not os.path.exists(library):
+        subprocess.run(["cc", "-O2", "-shared", "-fPIC", "-o", library, os.path.join(HERE, f"{name}.c"), "-ldl"], check=True)
+    return library
+
+
 def failed(program, given, room, more):
     """What a run of each read that may fail comes to: the read's number, and how the run ended."""
-    library, mark = os.path.join(room, "fail.so"), os.path.join(room, "mark")
-    if not os.path.exists(library):
-        subprocess.run(["cc", "-O2", "-shared", "-fPIC", "-o", library, os.path.join(HERE, "fail.c"), "-ldl"], check=True)
+    library, mark = built(room, "fail"), os.path.join(room, "mark")
     for n in range(1, 4000):
         got = run(program, given, env={"LD_PRELOAD": library, "FAIL_READ": str(n), "FAIL_MARK": mark, **more})
         if not os.path.exists(mark):
@@ -142,6 +152,39 @@ def one_read(program, path):
             yield f"{size}, bands of {band}, {workers} workers: kinds that came", kinds, kinds == wanted
 
 
+def answered(program, path, env):
+    """What a server answers two connections, of which one asks for an image in bands and one for a tile, and whether the log has their
+    lines."""
+    targets = [IMAGE[-1], "/iiif/a/2,2,2,2/max/0/default.tif"]
+    with running.Server(program, ["a=" + path], ["--edge", 2, "--band", 1, "--log"], env=env) as server:
+        answers = []
+        for target in targets:
+            with server.connect() as link:
+                link.sendall(f"GET {target} HTTP/1.1\r\nHost: localhost\r\nConnection: close\r\n\r\n".encode())
+                answers.append(running.to_the_end(link)[0])
+        wanted = "\n".join(rf"\S+Z GET 200 {len(it)} \d+ {re.escape(target)}" for it, target in zip(answers, targets))
+        for _ in range(500):
+            if re.fullmatch(wanted, server.line()):
+                return answers, True
+            time.sleep(0.01)
+        return answers, server.line()
+
+
+def interrupted(program, path):
+    """Every second call that reads a socket, or writes to one or to an output, interrupted: all comes to what it comes to without."""
+    with tempfile.TemporaryDirectory() as room:
+        marks = os.path.join(room, "marks")
+        os.mkdir(marks)
+        env = {"LD_PRELOAD": built(room, "interrupt"), "INTERRUPT_MARKS": marks}
+        for given in ([*IMAGE, "a=" + path], [*IMAGE, "a=" + path + ".none"]):
+            own, got = run(program, given), run(program, given, env=env)
+            yield f"{given}, interrupted", got, got == own and own[0] in (0, 2)
+        own, got = answered(program, path, {}), answered(program, path, env)
+        yield "two answers and their lines in the log, interrupted", got, got == own and own[1] is True
+        calls = sorted(os.listdir(marks))
+        yield "calls that were interrupted", calls, calls == ["errors", "output", "recv", "send", "sendmsg"]
+
+
 def main():
     parser = argparse.ArgumentParser(description=__doc__, formatter_class=argparse.RawDescriptionHelpFormatter)
     parser.add_argument("--program", required=True)
@@ -151,7 +194,7 @@ def main():
         path = os.path.join(room, "sample.tif")
         with open(path, "wb") as file:
             file.write(files.SAMPLE)
-        for part in (words, parsed, outputs, reads, one_read):
+        for part in (words, parsed, outputs, reads, one_read, interrupted):
             for what, got, is_right in part(program, path):
                 runs += 1
                 wrong += not is_right

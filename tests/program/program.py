@@ -8,10 +8,11 @@
 Needs `cc`, which builds pieces.c: where standard output has little room, it takes five bytes a write.
 
 Tables of cases stand in cases/, in the words of tables.py; options.py has those of servers that listen, on 127.0.0.1 alone. Each case
-runs in a room that holds data/ and the 300 files numbered/N.tif: the sample, whose first two samples are N. Cases run side by side. Of one
-that fails the name, the command, what was wanted and what came are printed; its room then stays, as the command needs it. A case that
-`shows` words runs without them, too, and has to come to something else; `every_option_makes_a_difference` fails where an option of --help
-or of the manual page has no case that shows it. The last line is `N passed, M failed`; the status is 1 where one failed, or none ran.
+runs in a room that holds data/, the symbolic link linked.tif to the sample, and the 300 files numbered/N.tif: the sample, whose first two
+samples are N. Cases run side by side. Of one that fails the name, the command, what was wanted and what came are printed; its room then
+stays, as the command needs it. A case that `shows` words runs without them, too, and has to come to something else;
+`every_option_makes_a_difference` fails where an option of --help or of the manual page has no case that shows it. The last line is
+`N passed, M failed`; the status is 1 where one failed, or none ran.
 """
 import argparse
 import concurrent.futures
@@ -50,6 +51,7 @@ def made_room():
     with open(f"{room}/sample.tif", "rb") as file:
         sample = file.read()
     subprocess.run(["cc", "-O2", "-shared", "-fPIC", "-o", f"{room}/pieces.so", f"{HERE}/pieces.c", "-ldl"], check=True)
+    os.symlink("sample.tif", f"{room}/linked.tif")
     os.mkdir(f"{room}/numbered")
     for n in range(300):
         with open(f"{room}/numbered/{n}.tif", "wb") as file:
