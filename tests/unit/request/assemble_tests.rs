@@ -6,6 +6,7 @@ use iiif_assemble::{ImageRef, ItemGroups, Job, assemble, assemble_band};
 use iiif_planner::{Band, bands};
 use iiif_keys::Fault;
 use iiif_pixel::{Depth, Dim, Raster, Samples, Span, Turn};
+use iiif_witnesses::{Flags, gather_flagged};
 use std::alloc::{AllocError, Global};
 use std::sync::Wait;
 use std::thread::Threads;
@@ -218,6 +219,29 @@ fn is_right<R: Threads + Wait + Sync>(rt: &R, alloc: Global, case: &Case) -> boo
 fn any_number_of_workers_makes_one_image(rt: HostRuntime) {
     for (k, case) in IMAGES.iter().enumerate() {
         assert!(rt; is_right(&rt, rt.alloc(), case), "image {k}");
+    }
+}
+
+/// Of the items 3, 0, 2 and 1 the last two can't be had, and a fault has the place of its item.
+fn is_first_told<R: Threads + Wait + Sync>(rt: &R, alloc: Global, workers: usize) -> bool {
+    let flags = Flags {
+        alloc,
+        bad: &[false, true, true, false],
+    };
+    let Ok(mut passes) = vec![in alloc; (); workers.max(1)] else {
+        return false;
+    };
+    match gather_flagged(rt, &flags, &mut passes, &[3, 2, 1, 0], &[0, 3, 1, 2]) {
+        Err(Fault::Source(fault)) => is_same(&fault.place, &2),
+        Err(fault) => is_unwanted(&fault),
+        Ok(_) => is_missing(),
+    }
+}
+
+#[test]
+fn first_item_that_cannot_be_had_is_told_by_any_number_of_workers(rt: HostRuntime) {
+    for workers in 1..6 {
+        assert!(rt; is_first_told(&rt, rt.alloc(), workers), "{workers} workers");
     }
 }
 
