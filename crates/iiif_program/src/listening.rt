@@ -115,7 +115,7 @@ fn serve_among<'a, R, E, J: System + Send + Sync>(
 ) -> Result<(), Stop<'a>>
 where
     R: Opens + Net<Listener = TcpListener, Stream = TcpStream> + Threads + Wait + Clock + Sync,
-    R: Reaches + AllocGlobal,
+    R: Reaches<Line = TcpStream> + AllocGlobal,
     R::Handle: Send + Sync,
     E: Outlet + Send,
     requires pictures { (name : List ℕ) → J.pictures name ≡ pictures_of (bytes_of R.holds) made.catalogue name }

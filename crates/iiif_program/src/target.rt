@@ -94,7 +94,7 @@ fn write_one_among<'a, R, O, J: System + Send + Sync>(
 ) -> Result<(), Stop<'a>>
 where
     R: Opens
-        + Reaches
+        + Reaches<Line = TcpStream>
         + Net<Listener = TcpListener, Stream = TcpStream>
         + Threads
         + Wait
