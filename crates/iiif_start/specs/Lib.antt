@@ -1,6 +1,7 @@
 pub mod DotSegments
 pub mod Folders
 pub mod Held
+pub mod Opened
 pub mod Parts
 pub mod Rooms
 pub mod Statuses

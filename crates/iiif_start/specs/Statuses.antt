@@ -35,9 +35,13 @@ unfit_number (Refused fault) = open_number fault
 abbrev pub has_unfit : List Checked → Bool
 has_unfit images = list_any (λ c. is_err c.found) images
 
--- whether each of them can't be served, and there is one
+-- whether each of them can't be served
+abbrev pub are_unfit : List Checked → Bool
+are_unfit images = list_all (λ c. is_err c.found) images
+
+-- so there are none but those, and there is one
 abbrev pub has_unfit_alone : List Checked → Bool
-has_unfit_alone images = not (length images == 0) && list_all (λ c. is_err c.found) images
+has_unfit_alone images = not (length images == 0) && are_unfit images
 
 -- how a check of images ends: well where each of them can be served, or one, where those that can't are left out
 abbrev pub end_of : List Checked → Bool → Result (Unit {0}) Stop

@@ -1,7 +1,7 @@
 //! All images opened once, and what they are.
 
 ghost use Rattle.std.specs.Prelude.{◌≡◌, IfOk, map};
-ghost use Rattle.iiif_start.specs.Statuses.{end_of, has_unfit, has_unfit_alone};
+ghost use Rattle.iiif_start.specs.Statuses.{are_unfit, end_of, has_unfit, has_unfit_alone};
 
 use crate::name::Word;
 use crate::opening::{open_image, shelf};
@@ -117,11 +117,18 @@ fn has_unfit(all: &[Checked<'_>]) -> bool
     all.iter().any(|image| image.found.is_err())
 }
 
+/// Whether each of these images can't be served.
+fn are_unfit(all: &[Checked<'_>]) -> bool
+    ensures { result ≡ are_unfit all.now }
+{
+    all.iter().all(|image| image.found.is_err())
+}
+
 /// Whether each of these images can't be served, and there is one.
 fn has_unfit_alone(all: &[Checked<'_>]) -> bool
     ensures { result ≡ has_unfit_alone all.now }
 {
-    !all.is_empty() && all.iter().all(|image| image.found.is_err())
+    !all.is_empty() && are_unfit(all)
 }
 
 /// How the program ends once these images were looked at, where those that can't be served are left out or aren't.

@@ -1,12 +1,14 @@
 //! The images that the words name.
 
-ghost use Rattle.std.specs.Prelude.{◌≡◌, ◌≤◌, ◌<◌, ◌⊎◌, ◌++◌, ◌∷◌, [], IfOk, IfSome, OnOk, None, codes, length, map};
+ghost use Rattle.std.specs.Prelude.{◌≡◌, ◌≤◌, ◌<◌, ◌⊎◌, ◌++◌, ◌∷◌, [], ℕ, List, IfNone, IfOk, IfSome, OnOk, None, codes, length, map};
 ghost use Rattle.std.specs.Prelude.{string_bytes, true, false};
+ghost use denote.Ref.{Bor};
 ghost use Rattle.std.specs.Arc.{arc_value};
 ghost use Rattle.std.specs.List.{AllZip};
 ghost use Rattle.iiif_tiff.specs.Tiff.{refusal_of, scheme};
 ghost use Rattle.iiif_tiff_read.specs.Layouts.{FitsIn};
 ghost use Rattle.iiif_start.specs.Folders.{IsImageIn};
+ghost use Rattle.iiif_start.specs.Opened.{AreOpened};
 ghost use Rattle.iiif_start.specs.Parts.{Parts};
 ghost use Rattle.iiif_start.specs.Stored.{bytes_of, is_held, keeps_of, IsItemOf, IsSourceOf};
 
@@ -365,10 +367,61 @@ where
     }
 }
 
+/// Opens one more image, and keeps it among those that are served or, where that is asked for, among those that can't be.
+#[tactic(auto, using(crate::proofs::OpenedLemmas::opened_left, crate::proofs::OpenedLemmas::opened_right))]
+fn open_next<'a, R>(
+    rt: &R,
+    alloc: Global,
+    files: &Arc<OpenFiles<R>>,
+    image: (&'a str, &'a str),
+    opening: Opening,
+    opened: &mut OpenedImages<'a, R>,
+) -> Result<(), Stop<'a>>
+where
+    R: Opens + Wait,
+    ensures { (front : List (Bor (List ℕ) × Bor (List ℕ))) → AreOpened R.holds R.keeps opening.hold opening.skip_unfit front
+        opened.old.catalogue opened.old.served.items (map (λ u. u.0) opened.old.unfit.items)
+        → OnOk result (AreOpened R.holds R.keeps opening.hold opening.skip_unfit (front ++ image.entry ∷ [])
+        opened.new.catalogue opened.new.served.items (map (λ u. u.0) opened.new.unfit.items)) }
+{
+    let (name, path) = image;
+    match open_image(rt, alloc, files, name, path, opening.hold) {
+        Ok((source, layout)) => {
+            add_image(alloc, &mut opened.catalogue, name, source, layout)?;
+            match opened.served.push(image) {
+                Ok(()) => Ok(()),
+                Err(_) => Err(Stop::Memory),
+            }
+        }
+        Err(Stop::Image(_, unfit)) if opening.skip_unfit => {
+            match opened.unfit.push((image, unfit)) {
+                Ok(()) => Ok(()),
+                Err(_) => Err(Stop::Memory),
+            }
+        }
+        Err(stop) => Err(stop),
+    }
+}
+
+/// Why none of some images can be served, where none can be and one is known of which that is so.
+fn none_served<'a, R>(opened: &OpenedImages<'a, R>) -> Option<Stop<'a>>
+where
+    R: Opens + Wait,
+    ensures { IfNone result ((opened.now.unfit.items ≡ []) ⊎ (0 < length opened.now.served.items)) }
+{
+    if !opened.served.is_empty() {
+        return None;
+    }
+    match opened.unfit.first() {
+        Some((image, unfit)) => Some(Stop::Image(image.0, *unfit)),
+        None => None,
+    }
+}
+
 /// The images, opened in the order given. Where `hold` is above 0, each file of at most so many bytes is read once, held in memory, and
 /// closed; of the others so many stay open. Where one can't be served, none is, or it is left out, as is asked for; where none can be, the
 /// first of them is told.
-#[tactic(auto, using(crate::proofs::Names::both_more, crate::proofs::Names::zip_push, crate::proofs::Names::parts_left, crate::proofs::Names::parts_right, crate::proofs::Names::parts_some))]
+#[tactic(auto, using(crate::proofs::OpenedLemmas::opened_next, crate::proofs::OpenedLemmas::opened_some))]
 pub fn open_images<'a, R>(
     rt: &R,
     alloc: Global,
@@ -386,24 +439,10 @@ where
     let files = shelf(alloc, opening.open_files)?;
     let mut opened = OpenedImages::new(alloc);
     for image in images {
-        let (name, path) = *image;
-        match open_image(rt, alloc, &files, name, path, opening.hold) {
-            Ok((source, layout)) => {
-                add_image(alloc, &mut opened.catalogue, name, source, layout)?;
-                if opened.served.push(*image).is_err() {
-                    return Err(Stop::Memory);
-                }
-            }
-            Err(Stop::Image(_, unfit)) if opening.skip_unfit => {
-                if opened.unfit.push((*image, unfit)).is_err() {
-                    return Err(Stop::Memory);
-                }
-            }
-            Err(stop) => return Err(stop),
-        }
+        open_next(rt, alloc, &files, *image, opening, &mut opened)?;
     }
-    match opened.unfit.first() {
-        Some((image, unfit)) if opened.served.is_empty() => Err(Stop::Image(image.0, *unfit)),
-        _ => Ok(opened),
+    match none_served(&opened) {
+        Some(stop) => Err(stop),
+        None => Ok(opened),
     }
 }
