@@ -1,4 +1,4 @@
-"""The machine over events, evaluated from its definitions (crates/iiif_machine/specs, iiif_scene/specs, iiif_tables/specs) in Python.
+"""The machine over events, evaluated from its definitions (crates/iiif_machine/specs, iiif_tables/specs) in Python.
 
 A key is a tuple: ("tile", name, edge, tx, ty), or ("sum", name, edge, (x, y, w, h), (w, h), level, bx, by). A picture is
 (width, height, channels, top, samples), sums are (rect, channels, sums).

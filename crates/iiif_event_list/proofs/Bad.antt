@@ -10,8 +10,8 @@ use Rattle.iiif_request.specs.declared.request.Refusal.{Refusal}
 use Rattle.iiif_request.specs.declared.request.Refusal.TheVariants as refusal
 use Rattle.iiif_keys.specs.declared.keys.TileKey.{TileKey}
 use Rattle.iiif_keys.specs.declared.keys.SumKey.{SumKey}
-use Rattle.iiif_scene.specs.declared.keys.Key.{Key}
-use Rattle.iiif_scene.specs.declared.keys.Key.TheVariants.{Tile, Sum}
+use Rattle.iiif_machine.specs.declared.keys.Key.{Key}
+use Rattle.iiif_machine.specs.declared.keys.Key.TheVariants.{Tile, Sum}
 use Rattle.iiif_machine.specs.Types.{Request}
 use Rattle.iiif_machine.specs.declared.events.Event.{Event}
 use Rattle.iiif_machine.specs.declared.events.Event.TheVariants.{Want, Enter, Again, AskPeer, Serve, Reply, Take, Lose, GoLocal, Load}

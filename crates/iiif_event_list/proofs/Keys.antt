@@ -1,7 +1,7 @@
 -- Keys behind keys.
 use Rattle.std.proofs.Common.{◌≡◌, ◌+◌, ◌++◌, append_assoc, ℕ, List, [], ◌∷◌, drop, length, ◌≤◌, refl, ap, sym, subst}
 use Rattle.std.proofs.lemmas.List.{drop-drop, drop_all}
-use Rattle.iiif_scene.specs.declared.keys.Key.{Key}
+use Rattle.iiif_machine.specs.declared.keys.Key.{Key}
 use Rattle.iiif_event_list.specs.Spellings.{AddsKey, AreKeys, IsKey, LineWords, count_of}
 
 -- the keys so far, and whatever keys the words from here on are, are those of all words

@@ -1,9 +1,9 @@
 -- What is said of events that were done.
 use Rattle.std.proofs.Common.{◌≡◌, ℕ, Option, Some, None, ap, sym, slice_get, ◌∙◌}
-use Rattle.iiif_scene.specs.declared.keys.Key.{Key}
-use Rattle.iiif_scene.proofs.Lists.{get_map}
-use Rattle.iiif_plain_tables.specs.declared.node.Node.{Node}
-use Rattle.iiif_plain_tables.specs.Nodes.{node_of}
+use Rattle.iiif_machine.specs.declared.keys.Key.{Key}
+use Rattle.iiif_machine.proofs.Lists.{get_map}
+use Rattle.iiif_machine.specs.declared.node.Node.{Node}
+use Rattle.iiif_machine.specs.Nodes.{node_of}
 use Rattle.iiif_world.specs.declared.contents.Contents.{Contents}
 use Rattle.iiif_world.specs.Code.{world_of}
 use Rattle.iiif_world.proofs.Changed.{missing_map}

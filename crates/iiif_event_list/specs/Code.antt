@@ -4,7 +4,7 @@ use Rattle.std.specs.Prelude.{if◌then◌else◌}
 use Rattle.std.specs.List.{AllByRecursion}
 use Rattle.std.specs.Str.{bytes_eq}
 use Rattle.iiif_keys.specs.Names.{is_name}
-use Rattle.iiif_scene.specs.declared.keys.Key.{Key}
+use Rattle.iiif_machine.specs.declared.keys.Key.{Key}
 use Rattle.iiif_machine.specs.Types.{Request}
 use Rattle.iiif_event_list.specs.declared.fault.LineFault.{LineFault}
 use Rattle.iiif_event_list.specs.declared.fault.LineFault.TheVariants.{Bad, NoMemory}

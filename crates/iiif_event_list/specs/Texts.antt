@@ -4,8 +4,10 @@ use Rattle.std.specs.Prelude.{option_map, slice_get}
 use Rattle.std.specs.List.{flat_map}
 use Rattle.std.specs.Str.{trim}
 use Rattle.iiif_tables.specs.Cache.{Kept, kept_for}
-use Rattle.iiif_scene.specs.Keys.{key_eq}
-use Rattle.iiif_machine.specs.Types.{Key, Value, Picture, Refusal, ReadFault}
+use Rattle.iiif_machine.specs.Keys.{key_eq}
+use Rattle.iiif_machine.specs.Types.{Picture, Refusal, ReadFault}
+use Rattle.iiif_machine.specs.declared.keys.Key.{Key}
+use Rattle.iiif_machine.specs.declared.keys.Value.{Value}
 use Rattle.iiif_machine.specs.Rows.{Node}
 use Rattle.iiif_machine.specs.declared.rows.Caller.{Caller}
 use Rattle.iiif_machine.specs.declared.rows.Call.{Call}

@@ -12,10 +12,9 @@ ghost use Rattle.percent_encoding.specs.Percent.{percent_decode};
 
 use crate::fault::LineFault;
 use iiif_keys::{Name, SumKey, TileKey, is_name};
-use iiif_machine::{Event, ShortRequest};
+use iiif_machine::{Event, Key, ShortRequest};
 use iiif_pixel::{Dim, NoMemory, Rect};
 use iiif_request::{Words, parse};
-use iiif_scene::Key;
 use iiif_source::ReadFault;
 use percent_encoding::{DecodeError, percent_decode};
 use std::alloc::Global;

@@ -7,10 +7,9 @@ ghost use Rattle.iiif_pixel.specs.Depths.{span_values};
 ghost use Rattle.iiif_event_list.specs.Texts.{answer_text, bits_word, fault_text, kind_word, picture_text, refusal_word, spaced};
 
 use iiif_keys::{Name, SumKey, SumVal, TileKey, TileVal};
-use iiif_machine::{Answer, Numbers};
+use iiif_machine::{Answer, Key, Numbers, Value};
 use iiif_pixel::{Depth, Kind, NoMemory, Raster, Rect, Span};
 use iiif_request::Refusal;
-use iiif_scene::{Key, Value};
 use iiif_source::ReadFault;
 use iiif_tables::Class;
 use percent_encoding::{CONTROLS, utf8_percent_encode};

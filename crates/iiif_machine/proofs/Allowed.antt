@@ -4,8 +4,8 @@ use Rattle.std.specs.Prelude.{Bool, true, false, ◌≤◌, nat_lt, if◌then◌
 use Rattle.std.specs.Str.{bytes_eq}
 use Rattle.std.proofs.lemmas.Option.{none-some}
 use Rattle.std.proofs.lemmas.Bool.{ltb-false, le-ltb}
-use Rattle.iiif_scene.specs.Keys.{parts_of}
-use Rattle.iiif_scene.proofs.Lists.{get_map}
+use Rattle.iiif_machine.specs.Keys.{parts_of}
+use Rattle.iiif_machine.proofs.Lists.{get_map}
 use Rattle.iiif_machine.specs.Types.{Key, ReadFault}
 use Rattle.iiif_machine.specs.Tables.{Class, Wide, Local, Outcome, Place, enter}
 use Rattle.iiif_machine.specs.Rows.{Node, Purpose, ForRequest, ForPart, ForFallback, ForAsk, Caller, CallState, Fresh, Hit, In, Gone, Call}

@@ -4,8 +4,8 @@ use Rattle.std.proofs.Common.{sym, ap, subst, ◌∙◌, ⊎_elim, if◌then◌e
 use Rattle.std.specs.Prelude.{slice_get, slice_set, position, ◌==◌}
 use Rattle.std.proofs.lemmas.Option.{none-some, same_Some}
 use Rattle.std.proofs.lemmas.Bool.{eqb-false}
-use Rattle.iiif_scene.specs.Keys.{is_tile, parts_of}
-use Rattle.iiif_scene.specs.Plans.{resolved}
+use Rattle.iiif_machine.specs.Keys.{is_tile, parts_of}
+use Rattle.iiif_machine.specs.Plans.{resolved}
 use Rattle.iiif_machine.specs.Types.{Key, Resolved, Refusal, Picture, ReadFault}
 use Rattle.iiif_machine.specs.Worlds.{owner_of}
 use Rattle.std.specs.Str.{bytes_eq}

@@ -2,8 +2,8 @@
 use Rattle.std.proofs.Common.{◌≡◌, ℕ, suc, List, [], ◌∷◌, ◌++◌, map, length, append_assoc, Some, refl, sym, ap, subst, ◌∙◌}
 use Rattle.std.specs.Prelude.{slice_get}
 use Rattle.std.proofs.lemmas.List.{length-map, map-append}
-use Rattle.iiif_scene.specs.Keys.{Fits}
-use Rattle.iiif_scene.proofs.Lists.{get_left}
+use Rattle.iiif_machine.specs.Keys.{Fits}
+use Rattle.iiif_machine.proofs.Lists.{get_left}
 use Rattle.iiif_machine.specs.Types.{Key}
 use Rattle.iiif_machine.specs.Rows.{Node, Given, Purpose, Caller, CallState, Lead, Stage, New, Ask, Reply, RequestInfo, Progress}
 use Rattle.iiif_machine.specs.Rows.{RequestRow}

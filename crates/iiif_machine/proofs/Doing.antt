@@ -3,8 +3,8 @@ use Rattle.std.proofs.Common.{◌≡◌, ℕ, List, [], ◌∷◌, map, length, 
 use Rattle.std.specs.Prelude.{slice_get, position}
 use Rattle.std.specs.Str.{bytes_eq}
 use Rattle.std.proofs.lemmas.Option.{none-some, same_Some}
-use Rattle.iiif_scene.specs.Keys.{name_of, parts_of, meaning}
-use Rattle.iiif_scene.specs.Plans.{resolved}
+use Rattle.iiif_machine.specs.Keys.{name_of, parts_of, meaning}
+use Rattle.iiif_machine.specs.Plans.{resolved}
 use Rattle.iiif_machine.specs.Types.{Key, Value, Picture, Request, ReadFault}
 use Rattle.iiif_machine.specs.Tables.{Class, Wide, Local, Outcome, Place, Main, Entered, finds, joins, leads, enter, again, land}
 use Rattle.iiif_machine.specs.Rows.{Node, Purpose, ForRequest, ForPart, ForFallback, ForAsk, Caller, CallState, Fresh, Hit, In, Gone}

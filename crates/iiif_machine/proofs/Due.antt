@@ -5,9 +5,9 @@ use Rattle.std.proofs.Common.{refl, sym, ap, subst, ◌∙◌, if◌then◌else�
 use Rattle.std.specs.Prelude.{slice_get, slice_set, ◌==◌}
 use Rattle.std.proofs.lemmas.Option.{none-some}
 use Rattle.std.proofs.lemmas.Bool.{and_parts}
-use Rattle.iiif_scene.specs.Keys.{key_eq, name_of, meaning}
-use Rattle.iiif_scene.specs.Plans.{resolved, items}
-use Rattle.iiif_scene.proofs.Assembling.{no_plan_is_empty}
+use Rattle.iiif_machine.specs.Keys.{key_eq, name_of, meaning}
+use Rattle.iiif_machine.specs.Plans.{resolved, items}
+use Rattle.iiif_machine.proofs.Assembling.{no_plan_is_empty}
 use Rattle.iiif_machine.specs.Types.{Key, Value, Picture, Request, Resolved, Refusal}
 use Rattle.iiif_machine.specs.Tables.{Local, Outcome, Place, Main, Peer, again}
 use Rattle.iiif_machine.specs.Rows.{Node, ForRequest, ForPart, ForFallback, Caller, CallState, Fresh, Hit, In, Gone, Call, Lead, Stage}

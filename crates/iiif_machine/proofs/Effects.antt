@@ -3,7 +3,7 @@ use Rattle.std.proofs.Common.{◌≡◌, ◌⊎◌, inl, inr, ⊎_elim, ℕ, zer
 use Rattle.std.proofs.Common.{refl, sym, ap, subst, ◌∙◌}
 use Rattle.std.specs.Prelude.{slice_get, slice_set}
 use Rattle.std.proofs.lemmas.List.{length-map}
-use Rattle.iiif_scene.specs.Keys.{name_of}
+use Rattle.iiif_machine.specs.Keys.{name_of}
 use Rattle.iiif_machine.specs.Types.{Key, Picture, Resolved}
 use Rattle.iiif_machine.specs.Tables.{Outcome, Nowhere}
 use Rattle.iiif_machine.specs.Rows.{Node, Given, Purpose, Caller, CallState, Fresh, Hit, In, Gone, Call, Lead, Stage, New, Looked, Asking}

@@ -2,9 +2,9 @@
 use Rattle.std.proofs.Common.{◌≡◌, ◌⊎◌, inl, inr, ⊎_elim, ℕ, List, [], ◌∷◌, map, length, Bool, true, false, Option, Some, None, Result, Ok}
 use Rattle.std.proofs.Common.{Err, refl, sym, ap, subst, ◌∙◌, if◌then◌else◌}
 use Rattle.std.specs.Prelude.{slice_get, slice_set, ◌==◌}
-use Rattle.iiif_scene.specs.Keys.{key_eq}
-use Rattle.iiif_scene.specs.Plans.{resolved, items}
-use Rattle.iiif_scene.proofs.Lists.{get_left, get_map}
+use Rattle.iiif_machine.specs.Keys.{key_eq}
+use Rattle.iiif_machine.specs.Plans.{resolved, items}
+use Rattle.iiif_machine.proofs.Lists.{get_left, get_map}
 use Rattle.iiif_machine.specs.Types.{Key, Value, ReadFault, Picture, Request, Resolved, Refusal}
 use Rattle.iiif_machine.specs.Tables.{Local, Table, Outcome, Place, Peer, again, land}
 use Rattle.iiif_machine.specs.Rows.{Node, ForRequest, ForPart, ForFallback, Caller, CallState, Fresh, Hit, In, Lead}
@@ -29,7 +29,7 @@ use Rattle.iiif_machine.proofs.Doing.{Does, wanted, found, joined, led, looked, 
 use Rattle.iiif_machine.proofs.Doing.{split, merged, failed, landed, evicted, stopped, after_does}
 use Rattle.iiif_machine.proofs.Learning.{get_mapped}
 use Rattle.iiif_machine.proofs.Registers.{set_cases}
-use Rattle.iiif_machine.proofs.Stopping.{lead_by, caller_by}
+use Rattle.iiif_machine.proofs.Stops.{lead_by, caller_by}
 use Rattle.iiif_machine.proofs.Effects.{NewStage, Gives, HasEffect, HasEnded, flights_same, flights_set, flights_more, flights_settled}
 use Rattle.iiif_machine.proofs.Effects.{calls_for, progress_own_later, requests_same, requests_settled, requests_more}
 

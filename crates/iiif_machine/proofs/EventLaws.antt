@@ -6,7 +6,7 @@ use Rattle.std.proofs.lemmas.Option.{none-some, same_Some}
 use Rattle.std.proofs.lemmas.Bool.{eqb-false}
 use Rattle.iiif_tables.specs.Cache.{Cache}
 use Rattle.iiif_tables.specs.Flights as tables
-use Rattle.iiif_scene.specs.Keys.{is_tile, key_eq}
+use Rattle.iiif_machine.specs.Keys.{is_tile, key_eq}
 use Rattle.iiif_machine.specs.Types.{Key, Value, ReadFault, Resolved}
 use Rattle.iiif_machine.specs.Tables.{Class, Table, Outcome, Place, Peer, land, emptied, Holds}
 use Rattle.iiif_machine.specs.Rows.{Node, Call, Lead, Stage, New, Looked, Asking, Fallback, Parts, Ready, Ended, Flight, Reply, Progress}

@@ -8,9 +8,9 @@ use Rattle.std.proofs.lemmas.Option.{none-some, same_Some}
 use Rattle.std.proofs.lemmas.Slice.Eq.{bytes_eq-Decides}
 use Rattle.iiif_ring.specs.Owner.{IsOwner}
 use Rattle.iiif_ring.proofs.Owners.{IsOwner-unique}
-use Rattle.iiif_scene.specs.Keys.{key_bytes}
-use Rattle.iiif_scene.specs.Plans.{resolved, items}
-use Rattle.iiif_scene.proofs.Lists.{get_map}
+use Rattle.iiif_machine.specs.Keys.{key_bytes}
+use Rattle.iiif_machine.specs.Plans.{resolved, items}
+use Rattle.iiif_machine.proofs.Lists.{get_map}
 use Rattle.iiif_machine.specs.Types.{Key, Picture, Request, Resolved, Refusal}
 use Rattle.iiif_machine.specs.Tables.{Wide, Local, Outcome, Place}
 use Rattle.iiif_machine.specs.Rows.{Node, Purpose, ForRequest, ForPart, ForFallback, Caller, CallState, Fresh, Hit, In}
@@ -32,7 +32,7 @@ use Rattle.iiif_machine.proofs.Learning.{bind_inv, get_mapped}
 use Rattle.iiif_machine.proofs.Lists.{map_set, position_found}
 use Rattle.iiif_machine.proofs.Registers.{end_cases}
 use Rattle.iiif_machine.proofs.RingOwners.{owner_is_the_rings}
-use Rattle.iiif_machine.proofs.Stopping.{caller_by}
+use Rattle.iiif_machine.proofs.Stops.{caller_by}
 use Rattle.iiif_machine.proofs.Doing.{Flies, landed_node, entered_node, Does, wanted, found, joined, led, looked, asked}
 use Rattle.iiif_machine.proofs.Doing.{served, replied, taken, late, lost, gone_local, read}
 use Rattle.iiif_machine.proofs.Doing.{split, merged, failed, landed, evicted, stopped, does}

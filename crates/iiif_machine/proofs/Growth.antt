@@ -1,7 +1,7 @@
 -- What holds of rows goes on to hold, while calls, flights, asks and faults only become more.
 use Rattle.std.proofs.Common.{ℕ, List, [], ◌∷◌, Some, None, Ok, Err}
-use Rattle.iiif_scene.specs.Scenes.{Scene}
-use Rattle.iiif_scene.specs.Plans.{items}
+use Rattle.iiif_machine.specs.Scenes.{Scene}
+use Rattle.iiif_machine.specs.Plans.{items}
 use Rattle.iiif_machine.specs.Types.{Key}
 use Rattle.iiif_machine.specs.Tables.{Outcome}
 use Rattle.iiif_machine.specs.Rows.{Given, Purpose, ForRequest, ForPart, ForFallback, ForAsk, Caller, CallState, Fresh, Hit, In, Gone}

@@ -3,7 +3,7 @@ use Rattle.std.proofs.Common.{◌≡◌, ℕ, Bool, true, false, Some, None, Opt
 use Rattle.std.specs.Prelude.{slice_get, slice_set, ◌==◌}
 use Rattle.std.proofs.lemmas.Option.{none-some, same_Some}
 use Rattle.std.proofs.lemmas.Bool.{eqb-true, eqb-false}
-use Rattle.iiif_scene.proofs.Lists.{get_map}
+use Rattle.iiif_machine.proofs.Lists.{get_map}
 use Rattle.iiif_machine.specs.Tables.{Outcome, emptied}
 use Rattle.iiif_machine.specs.Rows.{Node, Caller, Call, Gone, In, Lead, Stage, New, Looked, Asking, Fallback, Parts, Ready, Ended, Flight}
 use Rattle.iiif_machine.specs.Rows.{RequestRow}

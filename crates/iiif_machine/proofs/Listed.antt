@@ -6,10 +6,10 @@ use Rattle.std.specs.List.{position_or_len}
 use Rattle.std.proofs.lemmas.Option.{none-some, slice_get_within, get_or_from_slice_get, same_Some}
 use Rattle.std.proofs.lemmas.Bool.{cases_lt, lt-ltb, ne_eqb}
 use Rattle.std.proofs.lemmas.List.Sums.{fails_before_first}
-use Rattle.iiif_scene.specs.Keys.{is_tile, key_eq, parts_of}
-use Rattle.iiif_scene.specs.Plans.{resolved}
-use Rattle.iiif_scene.proofs.Lists.{get_left, get_map}
-use Rattle.iiif_scene.proofs.KeyParts.{eq_same, key_same}
+use Rattle.iiif_machine.specs.Keys.{is_tile, key_eq, parts_of}
+use Rattle.iiif_machine.specs.Plans.{resolved}
+use Rattle.iiif_machine.proofs.Lists.{get_left, get_map}
+use Rattle.iiif_machine.proofs.KeyParts.{eq_same, key_same}
 use Rattle.iiif_machine.specs.Types.{Key, Value, Resolved, Refusal, Picture, ReadFault}
 use Rattle.iiif_machine.specs.Worlds.{owner_of}
 use Rattle.std.specs.Str.{bytes_eq}

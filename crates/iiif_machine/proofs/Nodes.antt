@@ -1,7 +1,7 @@
 -- The tables of a node.
 use Rattle.std.proofs.Common.{◌≡◌, ℕ, Bool, true, false, List, Ok, sym, ap, subst, ◌∙◌, ⊎_elim, if◌then◌else◌}
-use Rattle.iiif_scene.specs.Scenes.{Scene}
-use Rattle.iiif_scene.specs.Keys.{is_tile, meaning}
+use Rattle.iiif_machine.specs.Scenes.{Scene}
+use Rattle.iiif_machine.specs.Keys.{is_tile, meaning}
 use Rattle.iiif_machine.specs.Types.{Key, Value}
 use Rattle.iiif_machine.specs.Tables.{Class, Table, Outcome, Place, Entered, enter, again, land, emptied, Holds}
 use Rattle.iiif_machine.proofs.Words.{TableLaws}

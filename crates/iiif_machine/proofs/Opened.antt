@@ -6,12 +6,12 @@ use Rattle.std.proofs.lemmas.Option.{none-some, same_Some}
 use Rattle.std.proofs.lemmas.Bool.{eqb-true}
 use Rattle.iiif_tables.specs.Cache.{Kept, kept_for}
 use Rattle.iiif_tables.specs.Flights as tables
-use Rattle.iiif_scene.specs.Keys.{key_eq, entry_size}
+use Rattle.iiif_machine.specs.Keys.{key_eq, entry_size}
 use Rattle.iiif_machine.specs.Types.{Key, Value}
 use Rattle.iiif_machine.specs.Tables.{Class, Wide, Local, Place, Outcome, Table, Entered, joins, leads, met, value_of, enter, again, land}
 use Rattle.iiif_machine.specs.Tables.{evicted, emptied, IsOpen}
 use Rattle.iiif_machine.proofs.Words.{TableLaws}
-use Rattle.iiif_scene.proofs.KeyParts.{same_key, eq_same, key_same}
+use Rattle.iiif_machine.proofs.KeyParts.{same_key, eq_same, key_same}
 use Rattle.iiif_machine.proofs.Tabled.{enter_found, enter_holds, again_found, again_holds, land_holds, evicted_holds, emptied_holds}
 
 abbrev Flights : Type 0

@@ -3,7 +3,7 @@ use Rattle.std.proofs.Common.{◌≡◌, ◌⊎◌, inl, inr, ⊎_elim, ℕ, zer
 use Rattle.std.specs.Prelude.{slice_get, slice_set, position}
 use Rattle.std.proofs.lemmas.Option.{none-some, same_Some}
 use Rattle.std.proofs.lemmas.Bool.{and_parts}
-use Rattle.iiif_scene.specs.Keys.{name_of}
+use Rattle.iiif_machine.specs.Keys.{name_of}
 use Rattle.iiif_machine.specs.Types.{Value, ReadFault}
 use Rattle.iiif_machine.specs.Tables.{Table, Outcome, Place, Entered, finds, joins, leads, enter}
 use Rattle.iiif_machine.specs.Rows.{Node, Given, Caller, CallState, Fresh, Hit, In, Gone, Call, Stage, New, Looked, Asking, Fallback}

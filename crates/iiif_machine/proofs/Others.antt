@@ -4,8 +4,8 @@ use Rattle.std.proofs.Common.{Ok, Err, refl, sym, ap}
 use Rattle.std.proofs.Common.{◌∙◌}
 use Rattle.std.specs.Prelude.{slice_get, slice_set}
 use Rattle.std.proofs.lemmas.Option.{same_Some}
-use Rattle.iiif_scene.specs.Plans.{resolved}
-use Rattle.iiif_scene.proofs.Lists.{get_left, get_map}
+use Rattle.iiif_machine.specs.Plans.{resolved}
+use Rattle.iiif_machine.proofs.Lists.{get_left, get_map}
 use Rattle.iiif_machine.specs.Types.{Key, Picture, Resolved, Refusal}
 use Rattle.iiif_machine.specs.Tables.{Outcome}
 use Rattle.iiif_machine.specs.Rows.{Node, Caller, CallState, Fresh, Hit, In, Gone, Call, Lead, Stage, New, Looked, Asking, Fallback}

@@ -5,9 +5,9 @@ use Rattle.std.specs.Prelude.{slice_get, slice_set, position, ◌==◌}
 use Rattle.std.specs.Str.{bytes_eq}
 use Rattle.std.proofs.lemmas.Option.{same_Some}
 use Rattle.std.proofs.lemmas.List.{map-append}
-use Rattle.iiif_scene.specs.Keys.{is_tile, parts_of}
-use Rattle.iiif_scene.specs.Plans.{resolved, items}
-use Rattle.iiif_scene.proofs.Lists.{get_left, get_map}
+use Rattle.iiif_machine.specs.Keys.{is_tile, parts_of}
+use Rattle.iiif_machine.specs.Plans.{resolved, items}
+use Rattle.iiif_machine.proofs.Lists.{get_left, get_map}
 use Rattle.iiif_machine.specs.Types.{Key, ReadFault, Picture, Resolved, Refusal}
 use Rattle.iiif_machine.specs.Tables.{Class, Wide, Local, Table, Outcome, Entered, finds, joins, leads, enter, again}
 use Rattle.iiif_machine.specs.Rows.{Node, Purpose, ForRequest, ForPart, ForFallback, ForAsk, Caller, CallState, Fresh, Hit, In, Gone, Lead}
@@ -27,7 +27,7 @@ use Rattle.iiif_machine.proofs.Words.{Stays, StepsStayPlaced}
 use Rattle.iiif_machine.proofs.Lists.{each_append, each_map, each_one, map_set, map_same, position_found}
 use Rattle.iiif_machine.proofs.Changes.{callers_more}
 use Rattle.iiif_machine.proofs.Registers.{set_found}
-use Rattle.iiif_machine.proofs.Stopping.{lead_by, caller_by}
+use Rattle.iiif_machine.proofs.Stops.{lead_by, caller_by}
 use Rattle.iiif_machine.proofs.Learning.{after_bind}
 
 abbrev CallersThere : World → List Caller → Type 0

@@ -3,9 +3,9 @@ use Rattle.std.proofs.Common.{◌≡◌, ℕ, List, [], ◌∷◌, map, length, 
 use Rattle.std.proofs.Common.{subst, ◌∙◌, if◌then◌else◌}
 use Rattle.std.specs.Prelude.{slice_get, position, ◌==◌, ◌<◌}
 use Rattle.std.proofs.lemmas.Bool.{eqb-true, and_parts}
-use Rattle.iiif_scene.specs.Keys.{name_of, rank_of, Fits, meaning, parts_of, key_eq}
-use Rattle.iiif_scene.specs.Plans.{items, resolved}
-use Rattle.iiif_scene.proofs.Lists.{get_left, each_of_all, get_map}
+use Rattle.iiif_machine.specs.Keys.{name_of, rank_of, Fits, meaning, parts_of, key_eq}
+use Rattle.iiif_machine.specs.Plans.{items, resolved}
+use Rattle.iiif_machine.proofs.Lists.{get_left, each_of_all, get_map}
 use Rattle.iiif_machine.specs.Types.{Key, Value, Resolved, Refusal, Picture, ReadFault}
 use Rattle.iiif_machine.specs.Worlds.{owner_of}
 use Rattle.std.specs.Str.{bytes_eq}

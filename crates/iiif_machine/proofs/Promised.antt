@@ -4,10 +4,10 @@ use Rattle.std.proofs.Common.{sym, ap, subst, ◌∙◌, ⊎_elim}
 use Rattle.std.specs.Prelude.{slice_get, length}
 use Rattle.std.proofs.lemmas.Option.{none-some, same_Some}
 use Rattle.iiif_tables.specs.Flights as tables
-use Rattle.iiif_scene.specs.Scenes.{Scene}
-use Rattle.iiif_scene.specs.Keys.{is_tile}
-use Rattle.iiif_scene.specs.Plans.{kind_of, resolved}
-use Rattle.iiif_scene.specs.Images.{image}
+use Rattle.iiif_machine.specs.Scenes.{Scene}
+use Rattle.iiif_machine.specs.Keys.{is_tile}
+use Rattle.iiif_machine.specs.Plans.{kind_of, resolved}
+use Rattle.iiif_machine.specs.Images.{image}
 use Rattle.iiif_machine.specs.Types.{Key, Request, Refusal, Resolved, Picture}
 use Rattle.iiif_machine.specs.Tables.{Class, Table, Holds, IsOpen, Lists}
 use Rattle.iiif_machine.specs.Rows.{Node, RequestInfo, Refused, Answered}
@@ -17,14 +17,14 @@ use Rattle.iiif_machine.specs.Sound.{IsApart, IsListed, AwaitsItsOwn, NodeIsHone
 use Rattle.iiif_machine.specs.Promises.{Follows, After}
 use Rattle.iiif_machine.proofs.Words.{SubjectLaws, Next, Stays}
 use Rattle.iiif_machine.specs.Worlds.{new_world, version_shown, speaker}
-use Rattle.iiif_scene.specs.Scenes.{IsProper}
+use Rattle.iiif_machine.specs.Scenes.{IsProper}
 use Rattle.iiif_machine.specs.Sound.{IsSound}
 use Rattle.iiif_machine.specs.Promises.{IsNew, RefusedAtOnce, EachStep, EachRun, EachRunFollows, AnswersAreRight, ValuesAreMeanings}
 use Rattle.iiif_machine.specs.Promises.{NoFaultNoFailure, CanonicalFormsAgree}
 use Rattle.iiif_canonical.specs.Images as images
 use Rattle.iiif_canonical.proofs.SameImages.{image_canonical}
-use Rattle.iiif_scene.proofs.Plans.{kind_is}
-use Rattle.iiif_scene.proofs.Lists.{get_map}
+use Rattle.iiif_machine.proofs.Plans.{kind_is}
+use Rattle.iiif_machine.proofs.Lists.{get_map}
 use Rattle.iiif_machine.proofs.Lists.{each_nil, get_end}
 use Rattle.iiif_machine.proofs.Learning.{bind_inv, learned_honest}
 use Rattle.iiif_machine.proofs.Steps.{step_kept}

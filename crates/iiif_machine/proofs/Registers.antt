@@ -3,7 +3,7 @@ use Rattle.std.proofs.Common.{◌≡◌, ℕ, zero, suc, List, [], ◌∷◌, �
 use Rattle.std.proofs.Common.{subst, ◌∙◌, ⊎_elim, if◌then◌else◌}
 use Rattle.std.specs.Prelude.{slice_get, slice_set}
 use Rattle.std.proofs.lemmas.Option.{none-some, same_Some}
-use Rattle.iiif_scene.specs.Keys.{is_tile}
+use Rattle.iiif_machine.specs.Keys.{is_tile}
 use Rattle.iiif_machine.specs.Types.{Key}
 use Rattle.iiif_machine.specs.Tables.{Table, IsOpen}
 use Rattle.iiif_machine.specs.Rows.{Node, Lead, Flight, Stage, New, Looked, Asking, Fallback, Parts, Ready, Ended}

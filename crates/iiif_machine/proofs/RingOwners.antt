@@ -11,8 +11,8 @@ use Rattle.std.proofs.lemmas.Slice.Eq.{bytes_eq-Decides}
 use Rattle.std.proofs.lemmas.Option.{slice_get_within, get_or_from_slice_get, slice_get-get_or, same_Some}
 use Rattle.iiif_ring.specs.Owner.{replicas, distance_from, IsUpTo}
 use Rattle.iiif_ring.proofs.Names.{IsUpTo-refl, IsUpTo-trans, IsUpTo-other}
-use Rattle.iiif_scene.specs.Keys.{key_bytes}
-use Rattle.iiif_scene.proofs.Lists.{get_map}
+use Rattle.iiif_machine.specs.Keys.{key_bytes}
+use Rattle.iiif_machine.proofs.Lists.{get_map}
 use Rattle.iiif_machine.specs.Types.{Key}
 use Rattle.iiif_machine.specs.Owners.{least, nearest, is_before, first_of, owner}
 use Rattle.iiif_machine.specs.Rows.{Node}

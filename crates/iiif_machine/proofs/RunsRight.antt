@@ -1,7 +1,7 @@
 -- The headline.
 use Rattle.std.proofs.Common.{◌≡◌, List, [], ◌∷◌, ◌++◌, Some, sym, subst, ◌∙◌}
 use Rattle.std.proofs.lemmas.Option.{same_Some}
-use Rattle.iiif_scene.specs.Scenes.{IsProper}
+use Rattle.iiif_machine.specs.Scenes.{IsProper}
 use Rattle.iiif_machine.specs.Worlds.{World}
 use Rattle.iiif_machine.specs.Steps.{Event, step, run}
 use Rattle.iiif_machine.specs.Sound.{IsSound}

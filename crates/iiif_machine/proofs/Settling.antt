@@ -2,9 +2,9 @@
 use Rattle.std.proofs.Common.{◌≡◌, ℕ, List, [], ◌∷◌, Option, Some, None, Ok, refl, sym, subst, ◌∙◌}
 use Rattle.std.specs.Prelude.{slice_get}
 use Rattle.std.proofs.lemmas.Option.{same_Some}
-use Rattle.iiif_scene.specs.Keys.{name_of}
-use Rattle.iiif_scene.specs.Plans.{items, resolved}
-use Rattle.iiif_scene.proofs.Lists.{each_of_all, get_map}
+use Rattle.iiif_machine.specs.Keys.{name_of}
+use Rattle.iiif_machine.specs.Plans.{items, resolved}
+use Rattle.iiif_machine.proofs.Lists.{each_of_all, get_map}
 use Rattle.iiif_machine.specs.Types.{Resolved, Picture}
 use Rattle.iiif_machine.proofs.Words.{SubjectLaws}
 use Rattle.iiif_machine.specs.Tables.{Wide, Outcome}

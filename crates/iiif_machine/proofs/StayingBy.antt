@@ -5,8 +5,8 @@ use Rattle.std.proofs.Common.{⊎_elim, if◌then◌else◌}
 use Rattle.std.specs.Prelude.{slice_get, slice_set, ◌==◌}
 use Rattle.std.proofs.lemmas.Bool.{eqb-true}
 use Rattle.std.proofs.lemmas.Option.{same_Some}
-use Rattle.iiif_scene.specs.Plans.{resolved}
-use Rattle.iiif_scene.proofs.Lists.{get_left, get_map}
+use Rattle.iiif_machine.specs.Plans.{resolved}
+use Rattle.iiif_machine.proofs.Lists.{get_left, get_map}
 use Rattle.iiif_machine.specs.Types.{Picture, Resolved, Refusal}
 use Rattle.iiif_machine.specs.Tables.{Outcome}
 use Rattle.iiif_machine.specs.Rows.{Node, Caller, CallState, Fresh, Hit, In, Gone, Call, RequestInfo, Answer, Waiting, Answered}

@@ -1,9 +1,9 @@
 -- Every event keeps what is honest.
 use Rattle.std.proofs.Common.{[], ◌∷◌, refl}
 use Rattle.std.specs.Prelude.{slice_get}
-use Rattle.iiif_scene.specs.Keys.{parts_of}
-use Rattle.iiif_scene.specs.Plans.{resolved}
-use Rattle.iiif_scene.proofs.Lists.{get_map}
+use Rattle.iiif_machine.specs.Keys.{parts_of}
+use Rattle.iiif_machine.specs.Plans.{resolved}
+use Rattle.iiif_machine.proofs.Lists.{get_map}
 use Rattle.iiif_machine.specs.Worlds.{version_shown, speaker, with_node, with_calls}
 use Rattle.iiif_machine.specs.Steps.{Want, Enter, Again, AskPeer, Serve, Take, Lose, GoLocal, Load, SourceFault, Land, Evict, Stop}
 use Rattle.iiif_machine.specs.Steps.{caller_serving, node_without, step}
@@ -15,7 +15,7 @@ use Rattle.iiif_machine.proofs.Lists.{each_one}
 use Rattle.iiif_machine.proofs.Settling.{next_by}
 use Rattle.iiif_machine.proofs.Changes.{node_set, calls_add}
 use Rattle.iiif_machine.proofs.Nodes.{lost_honest}
-use Rattle.iiif_machine.proofs.Stopping.{stopped_honest, stopped_follows}
+use Rattle.iiif_machine.proofs.Stops.{stopped_honest, stopped_follows}
 use Rattle.iiif_machine.proofs.Preserved.{wanted_kept, entering_kept, looking_kept, asking_kept, replying_kept, taking_kept, losing_kept}
 use Rattle.iiif_machine.proofs.Preserved.{going_local_kept, loading_kept, failing_kept, landing_kept}
 use Rattle.iiif_machine.proofs.Learning.{after_bind}

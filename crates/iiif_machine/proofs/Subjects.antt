@@ -1,7 +1,7 @@
 -- The laws of keys, plans and images, as the machine's proofs rest on them.
-use Rattle.iiif_scene.specs.Scenes.{Scene, IsProper}
-use Rattle.iiif_scene.proofs.KeyParts.{same_key, parts_fit_too, parts_below, parts_make_meaning}
-use Rattle.iiif_scene.proofs.Assembling.{items_fit, items_make_image, refused_has_no_image}
+use Rattle.iiif_machine.specs.Scenes.{Scene, IsProper}
+use Rattle.iiif_machine.proofs.KeyParts.{same_key, parts_fit_too, parts_below, parts_make_meaning}
+use Rattle.iiif_machine.proofs.Assembling.{items_fit, items_make_image, refused_has_no_image}
 use Rattle.iiif_machine.proofs.Words.{SubjectLaws}
 
 pub subject_laws : (s : Scene) → IsProper s → SubjectLaws s

@@ -8,14 +8,14 @@ use Rattle.std.proofs.lemmas.Option.{none-some, same_Some}
 use Rattle.iiif_tables.specs.Cache.{Kept, Cache, Side, main_side, hot_side, kept_for, touch, to_front, without, placed, replaced, added_to}
 use Rattle.iiif_tables.specs.Cache.{but_oldest, hot_is_large, evict, evict_at_most, shrink, is_too_big, put}
 use Rattle.iiif_tables.specs.Flights as tables
-use Rattle.iiif_scene.specs.Keys.{key_eq, entry_size}
+use Rattle.iiif_machine.specs.Keys.{key_eq, entry_size}
 use Rattle.iiif_machine.specs.Types.{Key, Value}
 use Rattle.iiif_machine.specs.Tables.{Class, Place, Nowhere, Main, Peer, Outcome, Table, Entered, finds, met, value_of, enter, again, land}
 use Rattle.iiif_machine.specs.Tables.{evicted, emptied, Lists, Holds}
 use Rattle.iiif_machine.specs.Sound.{Each}
 use Rattle.iiif_machine.proofs.Lists.{each_nil, each_cons}
-use Rattle.iiif_scene.proofs.KeyParts.{same_key}
-use Rattle.iiif_scene.proofs.Lists.{each_tail}
+use Rattle.iiif_machine.proofs.KeyParts.{same_key}
+use Rattle.iiif_machine.proofs.Lists.{each_tail}
 
 abbrev Row : Type 0
 Row = Key × Kept Value

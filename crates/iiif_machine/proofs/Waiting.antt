@@ -2,8 +2,8 @@
 use Rattle.std.proofs.Common.{◌≡◌, ◌⊎◌, ⊎_elim, ℕ, zero, suc, ◌<◌, List, [], ◌∷◌, Some, None, refl, sym, ap, subst, ◌∙◌, arith}
 use Rattle.std.specs.Prelude.{slice_get}
 use Rattle.std.proofs.lemmas.Option.{none-some, same_Some}
-use Rattle.iiif_scene.specs.Keys.{rank_of}
-use Rattle.iiif_scene.proofs.Lists.{get_map}
+use Rattle.iiif_machine.specs.Keys.{rank_of}
+use Rattle.iiif_machine.proofs.Lists.{get_map}
 use Rattle.iiif_machine.specs.Tables.{Class, Wide, Local}
 use Rattle.iiif_machine.specs.Rows.{Caller, Lead, Purpose, ForRequest, ForPart, ForFallback, ForAsk, Stage, New, Looked, Asking, Fallback}
 use Rattle.iiif_machine.specs.Rows.{Parts, Ready, Ended}

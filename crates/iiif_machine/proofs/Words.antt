@@ -1,9 +1,9 @@
 -- What the proofs speak of: the laws that they rest on, and what each event keeps.
 use Rattle.std.specs.Prelude.{◌≡◌, ◌<◌, ◌⊎◌, ℕ, List, true, Some, Ok, Err, Bool, All, map}
-use Rattle.iiif_scene.specs.Scenes.{Scene}
-use Rattle.iiif_scene.specs.Keys.{name_of, rank_of, key_eq, Fits, meaning, parts_of, derived}
-use Rattle.iiif_scene.specs.Plans.{resolved, items}
-use Rattle.iiif_scene.specs.Images.{image, assembled}
+use Rattle.iiif_machine.specs.Scenes.{Scene}
+use Rattle.iiif_machine.specs.Keys.{name_of, rank_of, key_eq, Fits, meaning, parts_of, derived}
+use Rattle.iiif_machine.specs.Plans.{resolved, items}
+use Rattle.iiif_machine.specs.Images.{image, assembled}
 use Rattle.iiif_machine.specs.Types.{Key, Value, Request, Refusal, Resolved, Picture}
 use Rattle.iiif_machine.specs.Tables.{Class, Table, Outcome, Place, finds, leads, enter, again, land, evicted, emptied, Holds, IsOpen}
 use Rattle.iiif_machine.specs.Worlds.{World}

@@ -12,9 +12,9 @@ use Rattle.iiif_keys.specs.Bytes.{tile_key_bytes, sum_key_bytes, tile_val_bytes,
 use Rattle.iiif_planner.specs.Items.{row_from, rows_from, greatest}
 use Rattle.iiif_tables.specs.Cache.{touch, without, placed, evict, evict_at_most, put}
 use Rattle.iiif_tables.specs.Flights as tables
-use Rattle.iiif_scene.specs.Keys.{name_of, rank_of, key_eq, is_tile, key_bytes, value_bytes, meaning, parts_of, derived}
-use Rattle.iiif_scene.specs.Plans.{resolved, items}
-use Rattle.iiif_scene.specs.Images.{assembled}
+use Rattle.iiif_machine.specs.Keys.{name_of, rank_of, key_eq, is_tile, key_bytes, value_bytes, meaning, parts_of, derived}
+use Rattle.iiif_machine.specs.Plans.{resolved, items}
+use Rattle.iiif_machine.specs.Images.{assembled}
 use Rattle.iiif_machine.specs.Owners.{owner}
 use Rattle.iiif_machine.specs.Tables.{enter, again, land, evicted, emptied}
 use Rattle.iiif_machine.specs.Worlds.{owner_of, version_at}

@@ -1,8 +1,8 @@
 -- Single events, and where their changes go: a landing's value, an ask, a call, an answer; and what belongs to other nodes.
 use Rattle.std.specs.Prelude.{◌≡◌, ◌↔◌, ◌⊎◌, ℕ, List, [], ◌∷◌, ◌++◌, Bool, Some, None, length, slice_get, slice_set}
 use Rattle.iiif_ring.specs.Owner.{IsOwner}
-use Rattle.iiif_scene.specs.Scenes.{Scene, IsProper}
-use Rattle.iiif_scene.specs.Keys.{key_bytes}
+use Rattle.iiif_machine.specs.Scenes.{Scene, IsProper}
+use Rattle.iiif_machine.specs.Keys.{key_bytes}
 use Rattle.iiif_machine.specs.Types.{Key, Picture, Resolved, Refusal}
 use Rattle.iiif_machine.specs.Tables.{Class, Local, Outcome, Place, land}
 use Rattle.iiif_machine.specs.Rows.{Node, ForRequest, ForPart, ForFallback, ForAsk, Caller, CallState, Fresh, Hit, In, Gone, Call}

@@ -1,6 +1,6 @@
 -- The headline: what holds after every list of events, whatever their order.
 use Rattle.std.specs.Prelude.{◌≡◌, ℕ, List, [], ◌∷◌, ◌++◌, false, Some, slice_get, true}
-use Rattle.iiif_scene.specs.Scenes.{IsProper}
+use Rattle.iiif_machine.specs.Scenes.{IsProper}
 use Rattle.iiif_machine.specs.Rows.{Flight}
 use Rattle.iiif_machine.specs.Worlds.{World}
 use Rattle.iiif_machine.specs.Steps.{Event, is_open, step, run}

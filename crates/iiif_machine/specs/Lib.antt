@@ -1,3 +1,8 @@
+pub mod Scenes
+pub mod Keys
+pub mod Plans
+pub mod Images
+pub mod KeyLaws
 pub mod Types
 pub mod Owners
 pub mod Tables
@@ -12,3 +17,7 @@ pub mod Leaving
 pub mod Frames
 pub mod Headline
 pub mod Worked
+pub mod Entries
+pub mod Open
+pub mod Nodes
+pub mod Heard

@@ -1,6 +1,6 @@
 -- How flights become ready, and where faults come from.
 use Rattle.std.specs.Prelude.{◌≡◌, ◌⊎◌, ℕ, List, ◌∷◌, ◌++◌, true, Some, Ok, Err, map, slice_get, length}
-use Rattle.iiif_scene.specs.Keys.{name_of}
+use Rattle.iiif_machine.specs.Keys.{name_of}
 use Rattle.iiif_machine.specs.Types.{Value, ReadFault}
 use Rattle.iiif_machine.specs.Tables.{Outcome, Place, Nowhere, Main, Peer}
 use Rattle.iiif_machine.specs.Rows.{Given, Caller, In, Lead, Fallback, Parts, Ready, Flight}

@@ -8,10 +8,10 @@ use Rattle.iiif_ring.specs.Owner.{IsOwner}
 use Rattle.iiif_tables.specs.Cache.{Cache}
 use Rattle.iiif_tables.specs.Flights as tables
 use Rattle.iiif_tables.specs.Flights.{flight_number}
-use Rattle.iiif_scene.specs.Scenes.{Scene, IsProper}
-use Rattle.iiif_scene.specs.Keys.{rank_of, meaning, parts_of}
-use Rattle.iiif_scene.specs.Plans.{kind_of}
-use Rattle.iiif_scene.specs.Images.{image}
+use Rattle.iiif_machine.specs.Scenes.{Scene, IsProper}
+use Rattle.iiif_machine.specs.Keys.{rank_of, meaning, parts_of}
+use Rattle.iiif_machine.specs.Plans.{kind_of}
+use Rattle.iiif_machine.specs.Images.{image}
 use Rattle.iiif_machine.specs.Types.{Key, Value, Picture, Request, Refusal, Resolved, ReadFault}
 use Rattle.iiif_machine.specs.Owners.{owner}
 use Rattle.iiif_machine.specs.Tables.{Class, Wide, Local, Place, Outcome, Holds}

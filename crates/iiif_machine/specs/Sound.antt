@@ -1,9 +1,9 @@
 -- What holds of a world at all times.
 use Rattle.std.specs.Prelude.{◌≡◌, ◌<◌, ℕ, List, [], ◌∷◌, true, Some, None, Ok, Err, map, length, slice_get}
-use Rattle.iiif_scene.specs.Scenes.{Scene}
-use Rattle.iiif_scene.specs.Keys.{name_of, rank_of, Fits, meaning, parts_of}
-use Rattle.iiif_scene.specs.Plans.{resolved, items}
-use Rattle.iiif_scene.specs.Images.{image}
+use Rattle.iiif_machine.specs.Scenes.{Scene}
+use Rattle.iiif_machine.specs.Keys.{name_of, rank_of, Fits, meaning, parts_of}
+use Rattle.iiif_machine.specs.Plans.{resolved, items}
+use Rattle.iiif_machine.specs.Images.{image}
 use Rattle.iiif_machine.specs.Types.{Key, Value, Picture}
 use Rattle.iiif_machine.specs.Tables.{Class, Wide, Local, Table, Outcome, Holds, IsOpen}
 use Rattle.iiif_machine.specs.Rows.{Node, Given, Purpose, ForRequest, ForPart, ForFallback, ForAsk, Caller, CallState, Fresh, Hit, In}

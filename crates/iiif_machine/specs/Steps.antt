@@ -3,8 +3,8 @@ use Rattle.std.specs.Prelude.{ℕ, List, [], ◌∷◌, Bool, true, false, ◌==
 use Rattle.std.specs.Prelude.{length, slice_get, position}
 use Rattle.std.specs.Str.{bytes_eq}
 use Rattle.iiif_tables.specs.Flights.{same_class}
-use Rattle.iiif_scene.specs.Keys.{name_of, key_eq, parts_of, meaning}
-use Rattle.iiif_scene.specs.Plans.{resolved, items}
+use Rattle.iiif_machine.specs.Keys.{name_of, key_eq, parts_of, meaning}
+use Rattle.iiif_machine.specs.Plans.{resolved, items}
 use Rattle.iiif_machine.specs.Types.{Key, Value, Resolved, Refusal, Picture, ReadFault}
 use Rattle.iiif_machine.specs.Tables.{Class, Wide, Local, Table, Outcome, Nowhere, Main, Peer, Entered, finds, joins, leads, enter, again}
 use Rattle.iiif_machine.specs.Tables.{land, evicted, emptied}

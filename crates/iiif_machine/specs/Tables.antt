@@ -2,7 +2,7 @@
 use Rattle.std.specs.Prelude.{◌≡◌, ℕ, ◌⊎◌, List, Bool, Option, Some, None, Result, Ok, Err, fold, slice_get}
 use Rattle.iiif_tables.specs.Cache.{Kept, without}
 use Rattle.iiif_tables.specs.Flights as tables
-use Rattle.iiif_scene.specs.Keys.{key_eq, entry_size}
+use Rattle.iiif_machine.specs.Keys.{key_eq, entry_size}
 pub use Rattle.iiif_tables.specs.declared.table.Class.{Class}
 pub use Rattle.iiif_tables.specs.declared.table.Class.TheVariants.{Wide, Local}
 pub use Rattle.iiif_tables.specs.declared.table.Place.{Place}

@@ -8,9 +8,9 @@ use Rattle.iiif_request.specs.declared.request.Form.{Form}
 use Rattle.iiif_request.specs.declared.request.Form.TheVariants.{Max, Width, Both}
 use Rattle.iiif_tables.specs.Flights as tables
 use Rattle.iiif_tables.specs.declared.table.Book.{Book}
-use Rattle.iiif_scene.specs.Scenes.{Scene}
-use Rattle.iiif_scene.specs.Keys.{meaning}
-use Rattle.iiif_scene.specs.declared.keys.Key.TheVariants as key
+use Rattle.iiif_machine.specs.Scenes.{Scene}
+use Rattle.iiif_machine.specs.Keys.{meaning}
+use Rattle.iiif_machine.specs.declared.keys.Key.TheVariants as key
 use Rattle.iiif_machine.specs.Types.{Key, Picture, Request, ReadFault}
 use Rattle.iiif_machine.specs.Tables.{Wide, Table, Peer, enter, land}
 use Rattle.iiif_machine.specs.Rows.{Node, Answer, Image, Failed}

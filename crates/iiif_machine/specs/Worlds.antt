@@ -2,11 +2,11 @@
 use Rattle.std.specs.Prelude.{ℕ, suc, nat_lt, List, [], ◌∷◌, ◌++◌, if◌then◌else◌, Option, Some, None, Ok, Err, Result, map, slice_get}
 use Rattle.std.specs.Prelude.{slice_set}
 use Rattle.std.specs.Str.{bytes_eq}
-use Rattle.iiif_scene.specs.Scenes.{Scene}
+use Rattle.iiif_machine.specs.Scenes.{Scene}
 use Rattle.iiif_keys.specs.Names.{named}
 use Rattle.iiif_keys.specs.Shapes.{shape_of, version_of}
-use Rattle.iiif_scene.specs.Keys.{name_of, is_tile, key_bytes, derived}
-use Rattle.iiif_scene.specs.Images.{assembled}
+use Rattle.iiif_machine.specs.Keys.{name_of, is_tile, key_bytes, derived}
+use Rattle.iiif_machine.specs.Images.{assembled}
 use Rattle.iiif_machine.specs.Types.{Key, Value, Resolved, Picture, ReadFault}
 use Rattle.iiif_machine.specs.Owners.{owner}
 use Rattle.iiif_machine.specs.Tables.{Class, Wide, Local, Table, Outcome, Nowhere}

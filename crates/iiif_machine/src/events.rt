@@ -1,9 +1,9 @@
 //! The events.
 
+use crate::keys::Key;
 use crate::short_request::ShortRequest;
 use iiif_keys::Name;
 use iiif_pixel::NoMemory;
-use iiif_scene::Key;
 use iiif_source::ReadFault;
 use thiserror::Error;
 

@@ -1,5 +1,7 @@
-//! The laws of worlds and events. The functions compute nothing: their contracts are the laws.
+//! The laws of keys, plans and images, and of worlds and events. The functions compute nothing: their contracts are the laws.
 
+ghost use Rattle.iiif_machine.specs.KeyLaws.{ItemsFit, ItemsMakeImage, KeysAreTold, NoPlanIsEmpty, PartsAreBelow, PartsFit, PartsMakeMeaning};
+ghost use Rattle.iiif_machine.specs.KeyLaws.{PlansHaveItems, RefusedHasNoImage};
 ghost use Rattle.iiif_machine.specs.Promises.{AllowedExactly, AnswersAreRight, CanonicalFormsAgree, EachRun, EachRunFollows, EachStep};
 ghost use Rattle.iiif_machine.specs.Promises.{FirstFaultCounts, NoFaultIsTaken, NoFaultNoFailure, NoneWaitsForItself, NotKeptStays};
 ghost use Rattle.iiif_machine.specs.Promises.{OneOutcome, OnlySourcesGive, OwnerIsTheRings, RefusedAtOnce, StopTakesAll, ValuesAreMeanings};
@@ -18,6 +20,27 @@ ghost use Rattle.iiif_machine.specs.Worked.{ReplyToAStoppedFlightChangesNothing,
 ghost use Rattle.iiif_machine.specs.Worked.{TenthIsKept, TwoShareAFault, TwoShareAValue, WaitsForItsCalls};
 ghost use Rattle.iiif_machine.specs.Worked.{AnswersStayAtAStop, EvictionLeavesOthers, OwnersAreAsked, PeerValueIsCounted};
 ghost use Rattle.iiif_machine.specs.Worked.{ThreeAreAnswered, TwoShareAThirdFault};
+
+/// So two keys may be compared by `key_eq`.
+pub fn keys_are_told_apart()
+    ensures { KeysAreTold }
+{}
+
+/// So a value may be made of the values of its parts, each of lower rank, of the same image, and naming something.
+pub fn parts_make_the_meaning()
+    ensures fit { PartsFit }
+    ensures below { PartsAreBelow }
+    ensures meaning { PartsMakeMeaning }
+{}
+
+/// So a request's image may be put together of the values of its plan's items.
+pub fn items_make_the_image()
+    ensures plan { PlansHaveItems }
+    ensures some { NoPlanIsEmpty }
+    ensures fit { ItemsFit }
+    ensures image { ItemsMakeImage }
+    ensures refused { RefusedHasNoImage }
+{}
 
 /// After every list of events that is allowed, the world is sound; each event, and each list of events, keeps it so, and takes
 /// back nothing that was given or answered.

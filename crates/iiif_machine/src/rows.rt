@@ -1,11 +1,11 @@
 //! The rows of a world: requests, calls, flights, asks and replies. The part of a row that never changes is a record of its own.
 
+use crate::keys::{Key, Value};
 use crate::numbers::Numbers;
 use iiif_canonical::Resolved;
 use iiif_keys::Name;
 use iiif_pixel::Raster;
 use iiif_request::{Refusal, Request};
-use iiif_scene::{Key, Value};
 use iiif_source::ReadFault;
 use iiif_tables::{Class, Place};
 

@@ -14,9 +14,9 @@ use Rattle.iiif_machine.specs.declared.events.WorldFault.TheVariants.{NoMemory}
 use Rattle.iiif_machine.specs.declared.rows.Stage.TheVariants.{Looked, Parts}
 use Rattle.iiif_machine.proofs.Allowed.{allowed_goes}
 use Rattle.iiif_world.specs.Code.{IsSoundWorld}
-use Rattle.iiif_plain_tables.specs.Heard.{heard_all}
+use Rattle.iiif_machine.specs.Heard.{heard_all}
 use Rattle.iiif_world.specs.Loads.{IsLocalAt}
-use Rattle.iiif_plain_tables.specs.declared.hearing.Heard.TheVariants as code
+use Rattle.iiif_machine.specs.declared.hearing.Heard.TheVariants as code
 use Rattle.iiif_world.proofs.Meant.{heard_value}
 use Rattle.iiif_world.proofs.Stepped.{want_is}
 

@@ -3,7 +3,7 @@ use Rattle.std.proofs.Common.{◌≡◌, ℕ, [], ◌∷◌, length, Bool, true,
 use Rattle.std.proofs.Common.{true≢false}
 use Rattle.std.specs.Prelude.{slice_get}
 use Rattle.std.proofs.lemmas.Option.{none-some, same_Some}
-use Rattle.iiif_machine.specs.Types.{Key}
+use Rattle.iiif_machine.specs.declared.keys.Key.{Key}
 use Rattle.iiif_machine.specs.Tables.{Local, Outcome}
 use Rattle.iiif_machine.specs.Rows.{Node}
 use Rattle.iiif_machine.specs.declared.rows.Ask.{Ask}

@@ -7,7 +7,7 @@ use Rattle.std.proofs.lemmas.List.{take_all, with_items_is, length-map}
 use Rattle.std.specs.Vec.{with_items}
 use Rattle.iiif_machine.specs.Sound.{Each}
 use Rattle.iiif_machine.proofs.Lists.{each_one, each_cons}
-use Rattle.iiif_plain_tables.proofs.Mixed.{get_there}
+use Rattle.iiif_machine.proofs.Mixed.{get_there}
 use Rattle.iiif_world.specs.Settling.{joined}
 
 pub set_same : {A : Type 0} (xs : List A) (i : ℕ) (x : A) → slice_get xs i ≡ Some x → slice_set xs i x ≡ xs

@@ -3,8 +3,8 @@ use Rattle.std.proofs.Common.{◌≡◌, ℕ, List, Some, ap, ◌∙◌}
 use Rattle.std.specs.Prelude.{slice_get}
 use Rattle.iiif_tables.specs.Cache.{Kept, kept_for}
 use Rattle.iiif_tables.specs.Flights as tables
-use Rattle.iiif_scene.specs.Keys.{key_eq, meaning}
-use Rattle.iiif_machine.specs.Types.{Value}
+use Rattle.iiif_machine.specs.Keys.{key_eq, meaning}
+use Rattle.iiif_machine.specs.declared.keys.Value.{Value}
 use Rattle.iiif_machine.specs.Tables.{met, enter}
 use Rattle.iiif_machine.specs.Rows.{Node}
 use Rattle.iiif_machine.specs.Worlds.{World, table_at, with_state, with_stage}

@@ -1,11 +1,12 @@
 -- What several calls know.
 use Rattle.std.proofs.Common.{◌≡◌, ℕ, List, ◌∷◌, Option, Some, None, Result, Ok, Err, refl, sym, ap, ◌∙◌}
-use Rattle.iiif_machine.specs.Types.{Value, ReadFault}
+use Rattle.iiif_machine.specs.Types.{ReadFault}
+use Rattle.iiif_machine.specs.declared.keys.Value.{Value}
 use Rattle.iiif_machine.specs.Tables.{Outcome}
 use Rattle.iiif_machine.specs.Worlds.{World, ◌>>=◌, learned, all_learned, collected, or_fault}
-use Rattle.iiif_plain_tables.specs.Heard.{heard, heard_all, heard_first, heard_from}
-use Rattle.iiif_plain_tables.specs.declared.hearing.Heard.{Heard}
-use Rattle.iiif_plain_tables.specs.declared.hearing.Heard.TheVariants as code
+use Rattle.iiif_machine.specs.Heard.{heard, heard_all, heard_first, heard_from}
+use Rattle.iiif_machine.specs.declared.hearing.Heard.{Heard}
+use Rattle.iiif_machine.specs.declared.hearing.Heard.TheVariants as code
 
 more : (o : Outcome) (r : Result (List Value) ReadFault) → heard_from (or_fault o r) ≡ heard_first (heard (Some o)) (heard_from r)
 more (Ok v) (Ok vs) = refl

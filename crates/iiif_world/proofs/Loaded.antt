@@ -2,11 +2,13 @@
 use Rattle.std.proofs.Common.{◌≡◌, ℕ, List, ◌++◌, map, length, Option, Some, None, Result, Ok, Err, sym, ap, ◌∙◌}
 use Rattle.std.specs.Prelude.{slice_get}
 use Rattle.std.proofs.lemmas.Option.{same_Some}
-use Rattle.iiif_scene.specs.Keys.{meaning, parts_of, derived, name_of}
-use Rattle.iiif_scene.specs.Scenes.{IsProper}
-use Rattle.iiif_scene.specs.declared.keys.Key.TheVariants as key
-use Rattle.iiif_scene.proofs.Lists.{each_of_all}
-use Rattle.iiif_machine.specs.Types.{Key, Value, ReadFault}
+use Rattle.iiif_machine.specs.Keys.{meaning, parts_of, derived, name_of}
+use Rattle.iiif_machine.specs.Scenes.{IsProper}
+use Rattle.iiif_machine.specs.declared.keys.Key.TheVariants as key
+use Rattle.iiif_machine.proofs.Lists.{each_of_all}
+use Rattle.iiif_machine.specs.Types.{ReadFault}
+use Rattle.iiif_machine.specs.declared.keys.Key.{Key}
+use Rattle.iiif_machine.specs.declared.keys.Value.{Value}
 use Rattle.iiif_machine.specs.Tables.{Main}
 use Rattle.iiif_machine.specs.Rows.{Node}
 use Rattle.iiif_machine.specs.Sound.{IsHonestWorld}
@@ -23,9 +25,9 @@ use Rattle.iiif_machine.specs.declared.rows.Stage.{Stage}
 use Rattle.iiif_machine.specs.declared.rows.Stage.TheVariants.{Looked, Parts, Ready}
 use Rattle.iiif_machine.proofs.Learning.{gathered}
 use Rattle.iiif_machine.proofs.Subjects.{subject_laws}
-use Rattle.iiif_plain_tables.specs.Heard.{heard_all}
+use Rattle.iiif_machine.specs.Heard.{heard_all}
 use Rattle.iiif_world.specs.Loads.{IsLocalAt}
-use Rattle.iiif_plain_tables.specs.declared.hearing.Heard.TheVariants as code
+use Rattle.iiif_machine.specs.declared.hearing.Heard.TheVariants as code
 use Rattle.iiif_world.proofs.Meant.{heard_value, heard_fault, heard_nothing, values_are}
 use Rattle.iiif_world.proofs.Stepped.{begin_is, merge_is, merge_none}
 

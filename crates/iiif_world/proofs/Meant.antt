@@ -19,14 +19,16 @@ use Rattle.iiif_keys.proofs.PartLaws.{fitting_has_parts}
 use Rattle.iiif_keys.specs.declared.keys.TileKey.{TileKey}
 use Rattle.iiif_keys.specs.declared.keys.SumKey.{SumKey}
 use Rattle.iiif_keys.proofs.Shaped.{kind_with_its_channels}
-use Rattle.iiif_scene.specs.Scenes.{Scene, IsProper}
-use Rattle.iiif_scene.specs.Keys.{Fits, name_of, meaning}
-use Rattle.iiif_scene.specs.Plans.{kind_of, resolved, items}
-use Rattle.iiif_scene.specs.Images.{image, assembled}
-use Rattle.iiif_scene.specs.declared.keys.Key.TheVariants as key
-use Rattle.iiif_scene.proofs.Plans.{kind_is, image_from_resolved}
-use Rattle.iiif_scene.proofs.Lists.{each_of_all}
-use Rattle.iiif_machine.specs.Types.{Key, Value, Request, Resolved, ReadFault}
+use Rattle.iiif_machine.specs.Scenes.{Scene, IsProper}
+use Rattle.iiif_machine.specs.Keys.{Fits, name_of, meaning}
+use Rattle.iiif_machine.specs.Plans.{kind_of, resolved, items}
+use Rattle.iiif_machine.specs.Images.{image, assembled}
+use Rattle.iiif_machine.specs.declared.keys.Key.TheVariants as key
+use Rattle.iiif_machine.proofs.Plans.{kind_is, image_from_resolved}
+use Rattle.iiif_machine.proofs.Lists.{each_of_all}
+use Rattle.iiif_machine.specs.Types.{Request, Resolved, ReadFault}
+use Rattle.iiif_machine.specs.declared.keys.Key.{Key}
+use Rattle.iiif_machine.specs.declared.keys.Value.{Value}
 use Rattle.iiif_machine.specs.Tables.{Outcome}
 use Rattle.iiif_machine.specs.declared.rows.RequestRow.{RequestRow}
 use Rattle.iiif_machine.specs.declared.rows.Answer.TheVariants.{Image}
@@ -36,9 +38,9 @@ use Rattle.iiif_machine.specs.Sound.{Each, IsHonestWorld, ProgressIsHonest, fact
 use Rattle.iiif_machine.proofs.Learning.{gathered, AreGathered}
 use Rattle.iiif_machine.proofs.Subjects.{subject_laws}
 use Rattle.iiif_machine.proofs.Promised.{ok_same}
-use Rattle.iiif_plain_tables.specs.Heard.{heard_all, heard_from}
-use Rattle.iiif_plain_tables.specs.declared.hearing.Heard.{Heard}
-use Rattle.iiif_plain_tables.specs.declared.hearing.Heard.TheVariants as code
+use Rattle.iiif_machine.specs.Heard.{heard_all, heard_from}
+use Rattle.iiif_machine.specs.declared.hearing.Heard.{Heard}
+use Rattle.iiif_machine.specs.declared.hearing.Heard.TheVariants as code
 use Rattle.iiif_world.specs.Settling.{answer_at, answer_due, answer_with}
 
 pub kind_same : (k : Kind) (p : Picture) → channels_of k ≡ p.channels → k ≡ kind_of p

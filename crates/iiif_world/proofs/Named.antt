@@ -4,8 +4,8 @@ use Rattle.std.specs.Prelude.{position, nat_lt, not}
 use Rattle.std.specs.List.{position_or_len}
 use Rattle.std.specs.Str.{bytes_eq}
 use Rattle.iiif_machine.specs.Rows as rows
-use Rattle.iiif_plain_tables.specs.declared.node.Node.{Node}
-use Rattle.iiif_plain_tables.specs.Nodes.{node_of}
+use Rattle.iiif_machine.specs.declared.node.Node.{Node}
+use Rattle.iiif_machine.specs.Nodes.{node_of}
 
 length_map : (ns : List Node) → length (map node_of ns) ≡ length ns
 length_map [] = refl

@@ -1,10 +1,11 @@
 -- Events that aren't allowed by the rows that they read; and what a read that fails comes to.
 use Rattle.std.proofs.Common.{Vec, Global, ◌≡◌, ℕ, List, Bool, Option, Some, None, Err, refl, sym, ap, ◌∙◌}
 use Rattle.std.specs.Prelude.{slice_get}
-use Rattle.iiif_scene.specs.Keys.{name_of, parts_of}
-use Rattle.iiif_scene.specs.declared.keys.Key.TheVariants as key
+use Rattle.iiif_machine.specs.Keys.{name_of, parts_of}
+use Rattle.iiif_machine.specs.declared.keys.Key.TheVariants as key
 use Rattle.iiif_keys.specs.declared.keys.TileKey.{TileKey}
-use Rattle.iiif_machine.specs.Types.{Key, ReadFault}
+use Rattle.iiif_machine.specs.Types.{ReadFault}
+use Rattle.iiif_machine.specs.declared.keys.Key.{Key}
 use Rattle.iiif_machine.specs.Tables.{Class, Wide, Local, Outcome, Place, Main}
 use Rattle.iiif_machine.specs.Rows.{Node}
 use Rattle.iiif_machine.specs.declared.rows.Call.{Call}

@@ -3,7 +3,7 @@ use Rattle.std.proofs.Common.{◌≡◌, ◌<◌, ◌+◌, ◌++◌, ℕ, List, 
 use Rattle.std.specs.Prelude.{slice_get}
 use Rattle.std.proofs.lemmas.List.{take_more}
 use Rattle.std.proofs.lemmas.Option.{none-some, same_Some}
-use Rattle.iiif_scene.specs.Scenes.{IsProper}
+use Rattle.iiif_machine.specs.Scenes.{IsProper}
 use Rattle.iiif_machine.specs.Sound.{IsSound}
 use Rattle.iiif_machine.specs.Worlds.{World, ◌>>=◌}
 use Rattle.iiif_machine.specs.Steps.{step, run}

@@ -7,7 +7,7 @@ use Rattle.std.proofs.lemmas.Option.{none-some, get_or_from_slice_get, slice_get
 use Rattle.std.proofs.lemmas.List.Quantifiers.{position-Some}
 use Rattle.std.proofs.lemmas.List.Sums.{fails_before_first}
 use Rattle.std.proofs.lemmas.Bool.{ltb-false}
-use Rattle.iiif_plain_tables.proofs.Mixed.{past}
+use Rattle.iiif_machine.proofs.Mixed.{past}
 use Rattle.iiif_world.specs.declared.contents.Item.{Item}
 use Rattle.iiif_world.specs.Code.{has_name, shown_in}
 

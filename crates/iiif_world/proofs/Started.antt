@@ -7,8 +7,8 @@ use Rattle.std.proofs.lemmas.Option.{none-some, same_Some}
 use Rattle.iiif_canonical.specs.declared.resolved.Limits.{Limits}
 use Rattle.iiif_keys.specs.Names.{IsSource}
 use Rattle.iiif_keys.specs.Blocks.{IsEdge}
-use Rattle.iiif_scene.specs.Scenes.{IsProper}
-use Rattle.iiif_scene.proofs.Lists.{get_map}
+use Rattle.iiif_machine.specs.Scenes.{IsProper}
+use Rattle.iiif_machine.proofs.Lists.{get_map}
 use Rattle.iiif_machine.specs.Types.{Picture}
 use Rattle.iiif_machine.specs.Rows.{Node}
 use Rattle.iiif_machine.specs.Promises.{IsNew}

@@ -4,9 +4,11 @@ use Rattle.std.specs.Prelude.{slice_get, slice_set, position}
 use Rattle.std.specs.Str.{bytes_eq}
 use Rattle.iiif_tables.specs.Cache.{Kept, kept_for}
 use Rattle.iiif_tables.specs.Flights as tables
-use Rattle.iiif_scene.specs.Keys.{key_eq, parts_of}
-use Rattle.iiif_scene.specs.Plans.{resolved}
-use Rattle.iiif_machine.specs.Types.{Key, Value, Request, Picture}
+use Rattle.iiif_machine.specs.Keys.{key_eq, parts_of}
+use Rattle.iiif_machine.specs.Plans.{resolved}
+use Rattle.iiif_machine.specs.Types.{Request, Picture}
+use Rattle.iiif_machine.specs.declared.keys.Key.{Key}
+use Rattle.iiif_machine.specs.declared.keys.Value.{Value}
 use Rattle.iiif_machine.specs.Tables.{emptied, Class, Wide, Local, Outcome, Place, Main, Table, met, enter, again, land}
 use Rattle.iiif_machine.specs.Rows.{Node}
 use Rattle.iiif_machine.specs.declared.rows.Caller.{Caller}
@@ -22,7 +24,7 @@ use Rattle.iiif_machine.specs.Worlds.{with_state, with_flight, with_ask, owner_o
 use Rattle.iiif_machine.specs.Steps.{is_open_for, lead_of, after_want, after_look, after_begin, after_stop, flight_stopped, call_stopped}
 use Rattle.iiif_machine.specs.Steps.{request_stopped, after_ask_peer, after_load, after_meeting, node_without, stage_found, step}
 use Rattle.iiif_machine.specs.declared.events.Event.TheVariants.{Want, Enter, Again, AskPeer, Load, Land, Stop}
-use Rattle.iiif_plain_tables.proofs.Opening.{enter_met}
+use Rattle.iiif_machine.proofs.Opening.{enter_met}
 
 pub bind_by : {A B : Type 0} (x : Option A) (f : A → Option B) (a : A) {y : Option B} → x ≡ Some a → f a ≡ y → (x >>= f) ≡ y
 bind_by x f a h e = ap (λ (o : Option _). o >>= f) h ∙ e

@@ -2,14 +2,14 @@
 use Rattle.std.proofs.Common.{◌≡◌, ℕ, List, map, get_or, Option, Some, None, Result, Ok, Err, refl, sym, ap, ◌∙◌}
 use Rattle.std.specs.Prelude.{slice_get, slice_set, OnErr}
 use Rattle.std.proofs.lemmas.Option.{get_or_from_slice_get}
-use Rattle.iiif_machine.specs.Types.{Value}
+use Rattle.iiif_machine.specs.declared.keys.Value.{Value}
 use Rattle.iiif_machine.specs.Tables.{Outcome, value_of}
 use Rattle.iiif_machine.specs.Rows as rows
 use Rattle.iiif_machine.specs.Worlds.{World, with_node}
 use Rattle.iiif_machine.proofs.Learning.{get_mapped}
 use Rattle.iiif_machine.proofs.Lists.{map_set}
-use Rattle.iiif_plain_tables.specs.declared.node.Node.{Node}
-use Rattle.iiif_plain_tables.specs.Nodes.{node_of}
+use Rattle.iiif_machine.specs.declared.node.Node.{Node}
+use Rattle.iiif_machine.specs.Nodes.{node_of}
 use Rattle.iiif_world.specs.Settling.{due, answer_due}
 use Rattle.iiif_world.proofs.Changed.{map-set}
 

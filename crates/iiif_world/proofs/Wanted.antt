@@ -8,11 +8,12 @@ use Rattle.iiif_pixel.specs.declared.geometry.Kind.{Kind}
 use Rattle.iiif_canonical.specs.Resolution.{IsResolved, resolved_of}
 use Rattle.iiif_planner.specs.Items.{HasItems}
 use Rattle.iiif_planner.specs.declared.plans.Plan.{Plan}
-use Rattle.iiif_scene.specs.Scenes.{Scene, IsProper}
-use Rattle.iiif_scene.specs.Plans.{kind_of, resolved, items, keys_in}
-use Rattle.iiif_scene.proofs.Assembling.{plans_have_items}
-use Rattle.iiif_scene.proofs.Plans.{kind_is}
-use Rattle.iiif_machine.specs.Types.{Key, Request, Refusal, Resolved}
+use Rattle.iiif_machine.specs.Scenes.{Scene, IsProper}
+use Rattle.iiif_machine.specs.Plans.{kind_of, resolved, items, keys_in}
+use Rattle.iiif_machine.proofs.Assembling.{plans_have_items}
+use Rattle.iiif_machine.proofs.Plans.{kind_is}
+use Rattle.iiif_machine.specs.Types.{Request, Refusal, Resolved}
+use Rattle.iiif_machine.specs.declared.keys.Key.{Key}
 use Rattle.iiif_machine.specs.Rows.{Node}
 use Rattle.iiif_machine.specs.Steps.{after_want, step}
 use Rattle.iiif_machine.specs.Worlds.{World, version_shown, speaker, call_for, fresh, numbers, with_request}

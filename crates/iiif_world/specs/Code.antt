@@ -3,10 +3,10 @@ use Rattle.std.specs.Prelude.{ℕ, Bool, List, [], ◌∷◌, Some, None, map, i
 use Rattle.std.specs.Str.{bytes_eq}
 use Rattle.iiif_keys.specs.Names.{Pictures}
 use Rattle.iiif_canonical.specs.declared.resolved.Limits.{Limits}
-use Rattle.iiif_scene.specs.Scenes.{Scene, IsProper}
+use Rattle.iiif_machine.specs.Scenes.{Scene, IsProper}
 use Rattle.iiif_machine.specs.Worlds.{World}
 use Rattle.iiif_machine.specs.Sound.{IsSound}
-use Rattle.iiif_plain_tables.specs.Nodes.{node_of}
+use Rattle.iiif_machine.specs.Nodes.{node_of}
 use Rattle.iiif_world.specs.declared.contents.Item.{Item}
 use Rattle.iiif_world.specs.declared.contents.Contents.{Contents}
 

@@ -1,8 +1,8 @@
 -- Calls that are to enter, and flights that take replies.
 use Rattle.std.specs.Prelude.{◌≡◌, ℕ, Bool, true, false, Option, Some, None, slice_get}
 use Rattle.iiif_tables.specs.Cache.{Kept, kept_for}
-use Rattle.iiif_scene.specs.Keys.{key_eq}
-use Rattle.iiif_scene.specs.declared.keys.Value.{Value}
+use Rattle.iiif_machine.specs.Keys.{key_eq}
+use Rattle.iiif_machine.specs.declared.keys.Value.{Value}
 use Rattle.iiif_machine.specs.Rows.{Node}
 use Rattle.iiif_machine.specs.declared.rows.Caller.{Caller}
 use Rattle.iiif_machine.specs.declared.rows.CallState.{CallState}

@@ -1,7 +1,7 @@
 -- What a local flight does next.
 use Rattle.std.specs.Prelude.{◌≡◌, ℕ, List, None, Some, slice_get}
-use Rattle.iiif_scene.specs.Keys.{parts_of}
-use Rattle.iiif_scene.specs.declared.keys.Key.TheVariants as key
+use Rattle.iiif_machine.specs.Keys.{parts_of}
+use Rattle.iiif_machine.specs.declared.keys.Key.TheVariants as key
 use Rattle.iiif_keys.specs.declared.keys.SumKey.{SumKey}
 use Rattle.iiif_tables.specs.declared.table.Class.TheVariants.{Local}
 use Rattle.iiif_machine.specs.Rows.{Node}
@@ -11,7 +11,7 @@ use Rattle.iiif_machine.specs.declared.events.Event.TheVariants.{Load}
 use Rattle.iiif_machine.specs.declared.rows.Lead.{Lead}
 use Rattle.iiif_machine.specs.declared.rows.Stage.{Stage}
 use Rattle.iiif_machine.specs.declared.rows.Stage.TheVariants.{Looked, Parts}
-use Rattle.iiif_plain_tables.specs.Heard.{heard_all}
+use Rattle.iiif_machine.specs.Heard.{heard_all}
 use Rattle.iiif_world.specs.declared.loading.Loading.{Loading}
 use Rattle.iiif_world.specs.declared.loading.Loading.TheVariants as loading
 

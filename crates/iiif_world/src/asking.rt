@@ -8,10 +8,9 @@ ghost use Rattle.iiif_world.specs.Code.{world_of};
 ghost use Rattle.iiif_world.specs.Entering.{takes};
 
 use crate::contents::Contents;
-use iiif_machine::{Ask, Caller, Purpose, Reply, Stage, WorldFault};
+use iiif_machine::keys::{copy_value, same};
+use iiif_machine::{Ask, Caller, Key, Purpose, Reply, Stage, WorldFault};
 use iiif_pixel::NoMemory;
-use iiif_plain_tables::keys::{copy_value, same};
-use iiif_scene::Key;
 use iiif_tables::{Class, Place};
 use std::alloc::Global;
 

@@ -7,16 +7,15 @@ ghost use Rattle.iiif_machine.specs.declared.rows.CallState.{CallState};
 ghost use Rattle.iiif_machine.specs.declared.rows.Stage.{Stage};
 ghost use Rattle.iiif_machine.specs.Worlds.{version_at, version_shown, with_ask, with_calls, with_given, with_reply, with_stage};
 ghost use Rattle.iiif_machine.specs.Worlds.{with_state};
-ghost use Rattle.iiif_plain_tables.specs.Nodes.{node_of};
+ghost use Rattle.iiif_machine.specs.Nodes.{node_of};
 ghost use Rattle.iiif_world.specs.Code.{has_name, world_of};
 
 use iiif_canonical::Limits;
 use iiif_keys::Name;
-use iiif_machine::{Ask, Call, CallState, Caller, Flight, Given, Reply, RequestRow, Stage};
+use iiif_machine::{Ask, Call, CallState, Caller, Flight, Given, Key, Reply, RequestRow, Stage};
+use iiif_machine::keys::name_of;
+use iiif_machine::node::Node;
 use iiif_pixel::{Depth, NoMemory, Raster};
-use iiif_plain_tables::keys::name_of;
-use iiif_plain_tables::node::Node;
-use iiif_scene::Key;
 
 /// An image of the catalogue.
 #[derive(Drop)]

@@ -3,8 +3,8 @@
 ghost use Rattle.std.specs.Prelude.{◌≡◌, ◌<◌, length, position, slice_get, vec_capacity, vec_len, Some, None, IfErr, IfOk, MatchOption};
 ghost use Rattle.std.specs.Prelude.{OnErr, OnOk};
 ghost use Rattle.iiif_tables.specs.Flights.{enter as entering};
-ghost use Rattle.iiif_scene.specs.Keys.{key_eq};
-ghost use Rattle.iiif_scene.specs.Scenes.{IsProper};
+ghost use Rattle.iiif_machine.specs.Keys.{key_eq};
+ghost use Rattle.iiif_machine.specs.Scenes.{IsProper};
 ghost use Rattle.iiif_machine.specs.Sound.{IsHonestWorld};
 ghost use Rattle.iiif_machine.specs.Steps.{step};
 ghost use Rattle.iiif_machine.specs.Rows.{Node};
@@ -13,16 +13,15 @@ ghost use Rattle.iiif_machine.specs.declared.events.Event.{Event};
 ghost use Rattle.iiif_machine.specs.declared.events.WorldFault.{WorldFault};
 ghost use Rattle.iiif_machine.specs.declared.rows.Caller.{Caller};
 ghost use Rattle.iiif_machine.specs.declared.rows.CallState.{CallState};
-ghost use Rattle.iiif_plain_tables.specs.Nodes.{entered_of};
+ghost use Rattle.iiif_machine.specs.Nodes.{entered_of};
 ghost use Rattle.iiif_world.specs.Code.{world_of, IsSoundWorld};
 ghost use Rattle.iiif_world.specs.Entering.{HasCall, IsFresh};
 
 use crate::contents::Contents;
-use iiif_machine::{CallState, Caller, Flight, Lead, Stage, WorldFault};
+use iiif_machine::flights::open_for;
+use iiif_machine::table::Entered;
+use iiif_machine::{CallState, Caller, Flight, Lead, Stage, Value, WorldFault};
 use iiif_pixel::NoMemory;
-use iiif_plain_tables::flights::open_for;
-use iiif_plain_tables::table::Entered;
-use iiif_scene::Value;
 
 impl Contents {
     /// A call enters the table of its node. After an error all is as before.

@@ -4,14 +4,13 @@ ghost use Rattle.std.specs.Prelude.{◌≡◌, Some, None, IfOk, MatchOption, On
 ghost use Rattle.iiif_machine.specs.declared.rows.CallState.{CallState};
 ghost use Rattle.iiif_machine.specs.Worlds.{all_learned, known_by, learned};
 ghost use Rattle.iiif_world.specs.Code.{world_of};
-ghost use Rattle.iiif_plain_tables.specs.Heard.{heard, heard_all};
+ghost use Rattle.iiif_machine.specs.Heard.{heard, heard_all};
 
 use crate::contents::Contents;
-use iiif_machine::{CallState, Stage};
+use iiif_machine::{CallState, Stage, Value};
+use iiif_machine::hearing::{Heard, copied_outcome, first_of, heard_of};
+use iiif_machine::keys::copy_value;
 use iiif_pixel::NoMemory;
-use iiif_plain_tables::hearing::{Heard, copied_outcome, first_of, heard_of};
-use iiif_plain_tables::keys::copy_value;
-use iiif_scene::Value;
 use iiif_source::ReadFault;
 
 impl Contents {

@@ -1,7 +1,7 @@
 //! The event of a landing.
 
 ghost use Rattle.std.specs.Prelude.{◌≡◌, ◌<◌, Bool, length, slice_get, Some, None, IfErr, IfOk, MatchOption, OnErr, OnOk};
-ghost use Rattle.iiif_scene.specs.Scenes.{IsProper};
+ghost use Rattle.iiif_machine.specs.Scenes.{IsProper};
 ghost use Rattle.iiif_machine.specs.Sound.{IsHonestWorld};
 ghost use Rattle.iiif_machine.specs.Steps.{step};
 ghost use Rattle.iiif_machine.specs.Tables.{Outcome, land as landed, value_of};
@@ -16,11 +16,10 @@ ghost use Rattle.iiif_world.specs.Code.{world_of, IsSoundWorld};
 ghost use Rattle.iiif_world.specs.Entering.{HasFlight};
 
 use crate::contents::Contents;
-use iiif_machine::{Lead, Stage, WorldFault};
+use iiif_machine::caching::Retention;
+use iiif_machine::flights::{end_flight, reopen_flight, value_in};
+use iiif_machine::{Lead, Stage, Value, WorldFault};
 use iiif_pixel::NoMemory;
-use iiif_plain_tables::caching::Retention;
-use iiif_plain_tables::flights::{end_flight, reopen_flight, value_in};
-use iiif_scene::Value;
 use iiif_source::ReadFault;
 use iiif_tables::Place;
 

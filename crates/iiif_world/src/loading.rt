@@ -1,9 +1,9 @@
 //! The events of reads, and of sums that are made of their parts.
 
 ghost use Rattle.std.specs.Prelude.{◌≡◌, ◌<◌, List, Some, None, IfErr, IfOk, OnErr, OnOk, length, map, slice_get};
-ghost use Rattle.iiif_scene.specs.Keys.{meaning, parts_of};
-ghost use Rattle.iiif_scene.specs.Scenes.{IsProper};
-ghost use Rattle.iiif_scene.specs.declared.keys.Key.{Key};
+ghost use Rattle.iiif_machine.specs.Keys.{meaning, parts_of};
+ghost use Rattle.iiif_machine.specs.Scenes.{IsProper};
+ghost use Rattle.iiif_machine.specs.declared.keys.Key.{Key};
 ghost use Rattle.iiif_machine.specs.Sound.{IsHonestWorld};
 ghost use Rattle.iiif_machine.specs.Steps.{step};
 ghost use Rattle.iiif_machine.specs.Worlds.{call_for, fresh, numbers};
@@ -14,15 +14,14 @@ ghost use Rattle.iiif_machine.specs.declared.rows.Purpose.{Purpose};
 ghost use Rattle.iiif_machine.specs.declared.rows.Stage.{Stage};
 ghost use Rattle.iiif_world.specs.Code.{world_of, IsSoundWorld};
 ghost use Rattle.iiif_world.specs.Loads.{IsLoading, IsLocalAt};
-ghost use Rattle.iiif_plain_tables.specs.declared.hearing.Heard.{Heard};
+ghost use Rattle.iiif_machine.specs.declared.hearing.Heard.{Heard};
 
 use crate::contents::Contents;
-use iiif_machine::{Call, Given, Numbers, Purpose, Stage, WorldFault};
+use iiif_machine::calling::{calls_of, numbers_of, parts_in};
+use iiif_machine::hearing::Heard;
+use iiif_machine::keys::name_of;
+use iiif_machine::{Call, Given, Key, Numbers, Purpose, Stage, Value, WorldFault};
 use iiif_pixel::NoMemory;
-use iiif_plain_tables::calling::{calls_of, numbers_of, parts_in};
-use iiif_plain_tables::hearing::Heard;
-use iiif_plain_tables::keys::name_of;
-use iiif_scene::{Key, Value};
 use iiif_source::ReadFault;
 use iiif_tables::{Class, Place};
 
@@ -72,7 +71,7 @@ impl Contents {
     }
 
     /// The next step of a flight, where it is a local one.
-    #[tactic(auto, unfolding(iiif_machine::specs::Steps::step, iiif_scene::specs::Keys::parts_of))]
+    #[tactic(auto, unfolding(iiif_machine::specs::Steps::step, iiif_machine::specs::Keys::parts_of))]
     fn loading(&self, flight: usize) -> Loading
         ensures { IsLoading (world_of self.now) flight result }
     {

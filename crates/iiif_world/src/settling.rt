@@ -1,18 +1,17 @@
 //! Settling: flights resume and requests are answered once their calls know.
 
 ghost use Rattle.std.specs.Prelude.{◌≡◌, ℕ, length, map, slice_get, Some, IfOk};
-ghost use Rattle.iiif_scene.specs.Scenes.{IsProper};
+ghost use Rattle.iiif_machine.specs.Scenes.{IsProper};
 ghost use Rattle.iiif_machine.specs.Sound.{IsHonestWorld};
 ghost use Rattle.iiif_machine.specs.Worlds.{settled};
 ghost use Rattle.iiif_world.specs.Code.{world_of};
 ghost use Rattle.iiif_world.specs.Settling.{answer_due, answered_if, due, joined, ready_if};
 
 use crate::contents::Contents;
-use iiif_machine::{Answer, Flight, Progress, RequestRow, Stage};
+use iiif_machine::hearing::Heard;
+use iiif_machine::making::image;
+use iiif_machine::{Answer, Flight, Progress, RequestRow, Stage, Value};
 use iiif_pixel::NoMemory;
-use iiif_plain_tables::hearing::Heard;
-use iiif_plain_tables::making::image;
-use iiif_scene::Value;
 use iiif_source::ReadFault;
 use iiif_tables::Place;
 

@@ -15,11 +15,10 @@ ghost use Rattle.iiif_world.specs.Code.{world_of, IsSoundWorld};
 ghost use Rattle.iiif_world.specs.Entering.{HasFlight};
 
 use crate::contents::Contents;
-use iiif_machine::{Ask, Lead, Stage, WorldFault};
+use iiif_machine::node::Node;
+use iiif_machine::stopping::{stop_calls, stop_flights, stop_requests};
+use iiif_machine::{Ask, Key, Lead, Stage, Value, WorldFault};
 use iiif_pixel::NoMemory;
-use iiif_plain_tables::node::Node;
-use iiif_plain_tables::stopping::{stop_calls, stop_flights, stop_requests};
-use iiif_scene::{Key, Value};
 use iiif_tables::{Class, Place};
 
 /// The place of the first node with a name.

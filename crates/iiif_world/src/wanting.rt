@@ -2,29 +2,29 @@
 
 ghost use Rattle.std.specs.Prelude.{◌≡◌, ◌++◌, slice_get, Some, None, Ok, IfErr, IfOk, MatchOption, OnErr, OnOk};
 ghost use Rattle.iiif_request.specs.Requests.{HasShortDecimals};
-ghost use Rattle.iiif_scene.specs.Scenes.{IsProper};
+ghost use Rattle.iiif_machine.specs.Scenes.{IsProper};
 ghost use Rattle.iiif_pixel.specs.Picture.{dim_of};
-ghost use Rattle.iiif_scene.specs.Plans.{items, kind_of, resolved as resolves};
+ghost use Rattle.iiif_machine.specs.Plans.{items, kind_of, resolved as resolves};
 ghost use Rattle.iiif_machine.specs.Steps.{step};
 ghost use Rattle.iiif_machine.specs.Worlds.{speaker, version_shown, with_request};
 ghost use Rattle.iiif_machine.specs.declared.events.Event.{Event};
 ghost use Rattle.iiif_machine.specs.declared.events.WorldFault.{WorldFault};
 ghost use Rattle.iiif_machine.specs.declared.rows.Progress.{Progress};
-ghost use Rattle.iiif_plain_tables.specs.Nodes.{node_of};
+ghost use Rattle.iiif_machine.specs.Nodes.{node_of};
 ghost use Rattle.iiif_world.specs.Code.{world_of};
 
 use crate::contents::{Contents, version_shown};
 use iiif_canonical::{Resolved, resolve};
 use iiif_keys::Name;
+use iiif_machine::calling::{calls_of, keys_of, numbers_of};
+use iiif_machine::node::Node;
 use iiif_machine::{
-    Answer, Call, Numbers, Progress, Purpose, RequestInfo, RequestRow, ShortRequest, WorldFault,
+    Answer, Call, Key, Numbers, Progress, Purpose, RequestInfo, RequestRow, ShortRequest,
+    WorldFault,
 };
 use iiif_pixel::{Dim, Kind, NoMemory, Raster};
-use iiif_plain_tables::calling::{calls_of, keys_of, numbers_of};
-use iiif_plain_tables::node::Node;
 use iiif_planner::plan;
 use iiif_request::Request;
-use iiif_scene::Key;
 
 /// The sides of a picture.
 fn dim_of(picture: &Raster) -> Dim

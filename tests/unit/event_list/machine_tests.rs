@@ -1,8 +1,8 @@
-//! Each public function of `iiif_machine` once, and the numbers of faults.
+//! Numbers and laws of `iiif_machine`, and the numbers of faults.
 
 use crate::fixtures::{is_same, is_unwanted, is_written};
 use iiif_machine::{Numbers, WorldFault, laws};
-use iiif_world::starting::SetupFault;
+use iiif_world::SetupFault;
 use std::alloc::Global;
 
 /// Whether numbers are as given.

@@ -7,7 +7,7 @@ use iiif_event_list::reading::event;
 use iiif_event_list::replaying::{answers, rows};
 use iiif_machine::{Event, WorldFault};
 use iiif_pixel::NoMemory;
-use iiif_world::world::World;
+use iiif_world::World;
 use std::alloc::Global;
 use std::test::Fail;
 

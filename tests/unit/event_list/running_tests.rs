@@ -10,9 +10,7 @@ use iiif_keys::{Name, is_name};
 use iiif_machine::{Answer, Event, WorldFault};
 use iiif_pixel::{Dim, Kind, NoMemory, Raster, Samples};
 use iiif_ring::Ring;
-use iiif_world::contents::Item;
-use iiif_world::starting::{Setup, SetupFault};
-use iiif_world::world::World;
+use iiif_world::{Item, Setup, SetupFault, World};
 use std::alloc::Global;
 
 fn add(events: &mut Vec<Event>, event: Event) -> Result<(), NoMemory> {

@@ -3,7 +3,7 @@ use Rattle.std.specs.String.{string_bytes}
 use Rattle.std.proofs.lemmas.Bool.Decides.{nat_tests}
 use Rattle.std.proofs.lemmas.Option.{slice_get-get_or}
 use Rattle.std.proofs.lemmas.List.{length-map}
-use Rattle.iiif_scene.proofs.Lists.{get_map}
+use Rattle.iiif_machine.proofs.Lists.{get_map}
 use Rattle.iiif_ring.specs.Names.{names_of}
 use Rattle.iiif_world.specs.Starting.{IsNamed}
 use Rattle.iiif_world.proofs.Changed.{each_more_made, each_all}

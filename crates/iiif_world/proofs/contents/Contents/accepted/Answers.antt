@@ -1,7 +1,7 @@
 use Rattle.std.proofs.Common.{◌≡◌, length, map, ap, ◌∙◌, arith}
 use Rattle.iiif_machine.specs.Worlds.{call_for, fresh, numbers}
 use Rattle.iiif_machine.specs.declared.rows.Purpose.TheVariants.{ForRequest}
-use Rattle.iiif_plain_tables.specs.Nodes.{node_of}
+use Rattle.iiif_machine.specs.Nodes.{node_of}
 use Rattle.iiif_world.specs.Code.{world_of}
 use Rattle.iiif_world.proofs.Wanted.{accepted_done}
 use Rattle.iiif_world.proofs.contents.Contents.accepted.Goals as goal

@@ -5,7 +5,7 @@ use Rattle.iiif_machine.specs.Steps.{stage_found}
 use Rattle.iiif_machine.specs.Worlds.{World}
 use Rattle.iiif_machine.specs.declared.events.Event.TheVariants.{Again}
 use Rattle.iiif_machine.specs.declared.rows.Stage.TheVariants.{New}
-use Rattle.iiif_plain_tables.specs.Nodes.{node_of}
+use Rattle.iiif_machine.specs.Nodes.{node_of}
 use Rattle.iiif_world.specs.Code.{world_of}
 use Rattle.iiif_world.specs.Entering.{HasFlight}
 use Rattle.iiif_world.proofs.Asked.{memory_wanted}

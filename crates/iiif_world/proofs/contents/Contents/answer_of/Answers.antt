@@ -3,7 +3,7 @@ use Rattle.iiif_pixel.specs.Picture.{Picture}
 use Rattle.iiif_machine.specs.Worlds.{all_learned}
 use Rattle.iiif_machine.specs.declared.rows.Answer.TheVariants.{Image}
 use Rattle.iiif_world.specs.Code.{world_of}
-use Rattle.iiif_plain_tables.specs.Heard.{heard_all}
+use Rattle.iiif_machine.specs.Heard.{heard_all}
 use Rattle.iiif_world.proofs.Meant.{is_ready, scalable, due_value}
 use Rattle.iiif_world.proofs.contents.Contents.answer_of.Goals as goal
 

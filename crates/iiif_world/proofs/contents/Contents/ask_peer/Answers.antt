@@ -4,7 +4,7 @@ use Rattle.std.proofs.lemmas.Option.{slice_get_within}
 use Rattle.iiif_machine.specs.Worlds.{World, owner_of}
 use Rattle.iiif_machine.specs.declared.events.Event.TheVariants.{AskPeer}
 use Rattle.iiif_machine.specs.declared.rows.Stage.TheVariants.{Looked}
-use Rattle.iiif_plain_tables.specs.Nodes.{node_of}
+use Rattle.iiif_machine.specs.Nodes.{node_of}
 use Rattle.iiif_world.specs.Code.{world_of}
 use Rattle.iiif_world.proofs.Allowing.{wants_memory}
 use Rattle.iiif_world.proofs.Named.{placed_by}

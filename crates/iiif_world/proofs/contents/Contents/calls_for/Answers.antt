@@ -1,8 +1,8 @@
 use Rattle.std.proofs.Common.{◌≡◌, length, sym, ap, subst, ◌∙◌, arith}
-use Rattle.iiif_scene.specs.Keys.{Fits}
+use Rattle.iiif_machine.specs.Keys.{Fits}
 use Rattle.iiif_machine.specs.Worlds.{numbers}
 use Rattle.iiif_machine.specs.declared.rows.Flight.{Flight}
-use Rattle.iiif_plain_tables.specs.Nodes.{node_of}
+use Rattle.iiif_machine.specs.Nodes.{node_of}
 use Rattle.iiif_world.specs.Code.{world_of}
 use Rattle.iiif_world.proofs.Loaded.{calls_done}
 use Rattle.iiif_world.proofs.Meant.{has_parts}

@@ -1,8 +1,8 @@
 use Rattle.std.proofs.Common.{sym, ap, ◌∙◌, option_map}
 use Rattle.iiif_machine.specs.declared.events.Event.TheVariants.{Enter}
-use Rattle.iiif_plain_tables.specs.Nodes.{node_of}
+use Rattle.iiif_machine.specs.Nodes.{node_of}
 use Rattle.iiif_world.specs.Code.{world_of}
-use Rattle.iiif_plain_tables.specs.Rows.{kept_of}
+use Rattle.iiif_machine.specs.Entries.{kept_of}
 use Rattle.iiif_world.proofs.Allowing.{wants_memory}
 use Rattle.iiif_world.proofs.Stepped.{enter_lost}
 use Rattle.iiif_world.proofs.contents.Contents.enter.Goals as goal

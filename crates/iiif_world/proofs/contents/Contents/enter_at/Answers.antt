@@ -2,10 +2,10 @@ use Rattle.std.proofs.Common.{refl, ap, ◌∙◌}
 use Rattle.iiif_machine.specs.Rows as rows
 use Rattle.iiif_machine.specs.Worlds.{put_table, table_at}
 use Rattle.iiif_tables.specs.Flights.{enter as entering}
-use Rattle.iiif_scene.specs.Keys.{key_eq}
+use Rattle.iiif_machine.specs.Keys.{key_eq}
 use Rattle.iiif_machine.specs.declared.rows.Caller.{Caller}
 use Rattle.iiif_machine.specs.declared.rows.Call.{Call}
-use Rattle.iiif_plain_tables.specs.Nodes.{node_of}
+use Rattle.iiif_machine.specs.Nodes.{node_of}
 use Rattle.iiif_world.specs.Code.{world_of}
 use Rattle.iiif_world.proofs.Tabled.{row_at, found_at, node_put, node_kept, on_err}
 use Rattle.iiif_world.proofs.contents.Contents.enter_at.Goals as goal

@@ -1,9 +1,9 @@
 use Rattle.std.proofs.Common.{◌≡◌, ◌<◌, map, length, refl, sym, ap, ◌∙◌, Some, arith}
 use Rattle.std.specs.Prelude.{slice_get, slice_set}
 use Rattle.std.proofs.lemmas.Option.{slice_get-get_or, slice_get_past}
-use Rattle.iiif_scene.proofs.Lists.{get_map}
+use Rattle.iiif_machine.proofs.Lists.{get_map}
 use Rattle.iiif_machine.specs.Steps.{node_without, step}
-use Rattle.iiif_plain_tables.specs.Nodes.{node_of}
+use Rattle.iiif_machine.specs.Nodes.{node_of}
 use Rattle.iiif_world.specs.Code.{world_of}
 use Rattle.iiif_world.proofs.Changed.{missing_map, map-set}
 use Rattle.iiif_world.proofs.Stepped.{evict_done}

@@ -1,7 +1,7 @@
 use Rattle.std.proofs.Common.{◌<◌, length, sym, ap, subst, ◌∙◌, arith}
 use Rattle.std.specs.Prelude.{slice_get}
 use Rattle.std.proofs.lemmas.Option.{slice_get_within}
-use Rattle.iiif_scene.specs.Scenes.{IsProper}
+use Rattle.iiif_machine.specs.Scenes.{IsProper}
 use Rattle.iiif_machine.specs.Sound.{IsHonestWorld}
 use Rattle.iiif_machine.specs.Worlds.{World, with_state}
 use Rattle.iiif_machine.specs.declared.rows.CallState.TheVariants.{Fresh, Hit}

@@ -1,7 +1,7 @@
 use Rattle.std.proofs.Common.{◌≡◌, List, position, sym, ap, ◌∙◌}
 use Rattle.std.specs.Prelude.{slice_get}
 use Rattle.std.proofs.lemmas.Option.{none-some}
-use Rattle.iiif_machine.specs.Types.{Key}
+use Rattle.iiif_machine.specs.declared.keys.Key.{Key}
 use Rattle.iiif_machine.specs.Steps.{is_open_for, lead_of}
 use Rattle.iiif_machine.specs.Worlds.{World, put_table, with_node}
 use Rattle.iiif_machine.specs.declared.events.Event.TheVariants.{Enter}
@@ -9,7 +9,7 @@ use Rattle.iiif_machine.specs.declared.rows.Call.{Call}
 use Rattle.iiif_machine.specs.declared.rows.CallState.TheVariants.{Fresh}
 use Rattle.iiif_machine.specs.declared.rows.Flight.{Flight}
 use Rattle.iiif_machine.proofs.Allowed.{allowed_exactly}
-use Rattle.iiif_plain_tables.specs.Nodes.{entered_of}
+use Rattle.iiif_machine.specs.Nodes.{entered_of}
 use Rattle.iiif_world.specs.Code.{world_of}
 use Rattle.iiif_world.specs.Entering.{HasCall}
 use Rattle.iiif_world.proofs.Tabled.{row_at}

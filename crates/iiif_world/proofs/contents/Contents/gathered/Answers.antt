@@ -1,8 +1,8 @@
 use Rattle.std.proofs.Common.{◌≡◌, ◌∷◌, ◌<◌, ◌+◌, suc, drop, get_or, length, sym, ap, ◌∙◌, arith, drop-cons}
 use Rattle.iiif_machine.specs.Worlds.{all_learned}
 use Rattle.iiif_world.specs.Code.{world_of}
-use Rattle.iiif_plain_tables.specs.Heard.{heard_all, heard_first}
-use Rattle.iiif_plain_tables.specs.declared.hearing.Heard.{Heard}
+use Rattle.iiif_machine.specs.Heard.{heard_all, heard_first}
+use Rattle.iiif_machine.specs.declared.hearing.Heard.{Heard}
 use Rattle.iiif_world.proofs.Gathered.{one_more}
 use Rattle.iiif_world.proofs.contents.Contents.gathered.Goals as goal
 

@@ -1,7 +1,7 @@
 use Rattle.std.proofs.Common.{◌≡◌, drop}
 use Rattle.iiif_machine.specs.Worlds.{all_learned}
 use Rattle.iiif_world.specs.Code.{world_of}
-use Rattle.iiif_plain_tables.specs.Heard.{heard_all, heard_first}
+use Rattle.iiif_machine.specs.Heard.{heard_all, heard_first}
 use Rattle.iiif_world.proofs.contents.Contents.gathered.Given as goal
 
 -- what was heard so far, and what the others know

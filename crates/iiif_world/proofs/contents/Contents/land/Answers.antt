@@ -1,13 +1,13 @@
 use Rattle.std.proofs.Common.{◌<◌, length, sym, ap, subst, ◌∙◌, Some, arith}
 use Rattle.std.specs.Prelude.{slice_get}
 use Rattle.std.proofs.lemmas.Option.{none-some, slice_get_within}
-use Rattle.iiif_scene.specs.Scenes.{IsProper}
+use Rattle.iiif_machine.specs.Scenes.{IsProper}
 use Rattle.iiif_machine.specs.Sound.{IsHonestWorld}
 use Rattle.iiif_machine.specs.Worlds.{World, with_stage}
 use Rattle.iiif_machine.specs.declared.events.Event.TheVariants.{Land}
 use Rattle.iiif_machine.specs.declared.rows.Stage.TheVariants.{Ready, Ended}
 use Rattle.iiif_machine.proofs.Apart.{set_there}
-use Rattle.iiif_plain_tables.specs.Nodes.{node_of}
+use Rattle.iiif_machine.specs.Nodes.{node_of}
 use Rattle.iiif_world.specs.Code.{world_of}
 use Rattle.iiif_world.specs.Entering.{HasFlight}
 use Rattle.iiif_world.proofs.Changed.{length_set}

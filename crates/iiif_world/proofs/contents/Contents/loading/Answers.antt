@@ -1,11 +1,11 @@
 use Rattle.std.proofs.Common.{◌≡◌, Some, ap, ◌∙◌}
 use Rattle.std.specs.Prelude.{slice_get}
-use Rattle.iiif_scene.specs.Keys.{parts_of}
+use Rattle.iiif_machine.specs.Keys.{parts_of}
 use Rattle.iiif_machine.specs.Worlds.{all_learned}
 use Rattle.iiif_machine.specs.declared.rows.Stage.TheVariants.{Looked, Parts}
-use Rattle.iiif_plain_tables.specs.Nodes.{node_of}
+use Rattle.iiif_machine.specs.Nodes.{node_of}
 use Rattle.iiif_world.specs.Code.{world_of}
-use Rattle.iiif_plain_tables.specs.Heard.{heard_all}
+use Rattle.iiif_machine.specs.Heard.{heard_all}
 use Rattle.iiif_world.proofs.Loaded.{local_at}
 use Rattle.iiif_world.proofs.Stepped.{load_none, no_load}
 use Rattle.iiif_world.proofs.contents.Contents.loading.Goals as goal

@@ -4,7 +4,7 @@ use Rattle.iiif_machine.specs.Worlds.{put_table, table_at}
 use Rattle.iiif_machine.specs.Tables.{again as looked}
 use Rattle.iiif_machine.specs.declared.rows.Lead.{Lead}
 use Rattle.iiif_machine.specs.declared.rows.Flight.{Flight}
-use Rattle.iiif_plain_tables.specs.Nodes.{node_of}
+use Rattle.iiif_machine.specs.Nodes.{node_of}
 use Rattle.iiif_world.specs.Code.{world_of}
 use Rattle.iiif_world.proofs.Tabled.{row_at, found_at, node_put, node_kept, on_err}
 use Rattle.iiif_world.proofs.contents.Contents.look.Goals as goal

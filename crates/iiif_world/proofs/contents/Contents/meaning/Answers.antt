@@ -1,5 +1,5 @@
 use Rattle.std.proofs.Common.{subst}
-use Rattle.iiif_scene.specs.Keys.{Fits}
+use Rattle.iiif_machine.specs.Keys.{Fits}
 use Rattle.iiif_world.specs.Code.{world_of}
 use Rattle.iiif_world.proofs.Meant.{tile_fits, tile_known, sum_fits, sum_known}
 use Rattle.iiif_world.proofs.contents.Contents.meaning.Goals as goal

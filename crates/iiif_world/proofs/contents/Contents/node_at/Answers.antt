@@ -1,8 +1,8 @@
 use Rattle.std.proofs.Common.{List, sym, ap, ◌∙◌}
 use Rattle.std.specs.Prelude.{slice_get}
-use Rattle.iiif_scene.proofs.Lists.{get_map}
-use Rattle.iiif_plain_tables.specs.Nodes.{node_of}
-use Rattle.iiif_plain_tables.specs.declared.node.Node.{Node}
+use Rattle.iiif_machine.proofs.Lists.{get_map}
+use Rattle.iiif_machine.specs.Nodes.{node_of}
+use Rattle.iiif_machine.specs.declared.node.Node.{Node}
 use Rattle.iiif_world.proofs.Changed.{missing_map}
 use Rattle.iiif_world.proofs.contents.Contents.node_at.Goals as goal
 

@@ -1,6 +1,6 @@
 use Rattle.std.proofs.Common.{refl}
 use Rattle.iiif_machine.specs.declared.events.Event.TheVariants.{Serve}
-use Rattle.iiif_plain_tables.specs.Nodes.{node_of}
+use Rattle.iiif_machine.specs.Nodes.{node_of}
 use Rattle.iiif_world.specs.Code.{world_of}
 use Rattle.iiif_world.proofs.Asked.{memory_wanted, serve_none, serve_lost, serve_mute, serve_is, serve_done}
 use Rattle.iiif_world.proofs.contents.Contents.serve.Goals as goal

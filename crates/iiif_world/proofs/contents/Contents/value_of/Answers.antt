@@ -1,6 +1,6 @@
 use Rattle.std.proofs.Common.{Some, sym, ap, ◌∙◌}
 use Rattle.std.proofs.lemmas.Option.{slice_get-get_or, get_or_from_slice_get}
-use Rattle.iiif_scene.specs.Keys.{meaning}
+use Rattle.iiif_machine.specs.Keys.{meaning}
 use Rattle.iiif_machine.specs.declared.rows.Flight.{Flight}
 use Rattle.iiif_world.specs.Code.{world_of}
 use Rattle.iiif_world.proofs.contents.Contents.value_of.Goals as goal

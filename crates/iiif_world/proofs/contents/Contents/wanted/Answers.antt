@@ -1,6 +1,6 @@
 use Rattle.std.proofs.Common.{Ok, Err, refl, sym, ap, ◌∙◌}
 use Rattle.iiif_machine.specs.Worlds.{speaker}
-use Rattle.iiif_plain_tables.specs.Nodes.{node_of}
+use Rattle.iiif_machine.specs.Nodes.{node_of}
 use Rattle.iiif_world.specs.Code.{world_of}
 use Rattle.iiif_world.proofs.Allowing.{want_allowed}
 use Rattle.iiif_world.proofs.Stepped.{want_none, want_lost, want_mute}

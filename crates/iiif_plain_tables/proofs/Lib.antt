@@ -1,9 +1,0 @@
-pub mod Placed
-pub mod Opening
-pub mod Closing
-pub mod Marking
-pub mod Landed
-pub mod Owned
-pub mod Numbered
-pub mod Parts
-pub mod Mixed

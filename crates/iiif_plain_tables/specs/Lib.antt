@@ -1,4 +1,0 @@
-pub mod Rows
-pub mod Open
-pub mod Nodes
-pub mod Heard

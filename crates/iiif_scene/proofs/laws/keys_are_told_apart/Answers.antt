@@ -1,5 +1,0 @@
-use Rattle.iiif_scene.proofs.KeyParts.{keys_are_told}
-use Rattle.iiif_scene.proofs.laws.keys_are_told_apart.Goals as goal
-
-pub returns : goal.returns
-returns c = keys_are_told

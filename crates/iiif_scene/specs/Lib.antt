@@ -1,5 +1,0 @@
-pub mod Scenes
-pub mod Keys
-pub mod Plans
-pub mod Images
-pub mod Laws
