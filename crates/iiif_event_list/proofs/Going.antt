@@ -9,8 +9,8 @@ use Rattle.iiif_world.proofs.Right.{run_is_right}
 use Rattle.iiif_world.proofs.Run.{runs_compose}
 use Rattle.iiif_event_list.specs.Described.{first_by, first_of, plain_world}
 use Rattle.iiif_event_list.specs.Spellings.{LineWords}
-use Rattle.iiif_event_list.specs.declared.state.State.{State}
-use Rattle.iiif_event_list.specs.declared.state.State.TheVariants.{Described, Begun, Lost}
+use Rattle.iiif_event_list.specs.declared.replaying.State.{State}
+use Rattle.iiif_event_list.specs.declared.replaying.State.TheVariants.{Described, Begun, Lost}
 use Rattle.iiif_event_list.specs.Replays.{Comes, HasBegun, HasHeadline, IsDescribed, IsNew, IsOutcome, LineComes, Sets, done_in}
 use Rattle.iiif_event_list.specs.Replays.{first_in, world_in}
 use Rattle.iiif_event_list.specs.Replays.{blank, comment, next, shown, set, happened}

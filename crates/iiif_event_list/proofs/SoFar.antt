@@ -8,7 +8,7 @@ use Rattle.std.proofs.KnownBytes.{Appends-trans}
 use Rattle.iiif_machine.specs.Worlds.{World}
 use Rattle.iiif_machine.specs.declared.events.Event.{Event}
 use Rattle.iiif_event_list.specs.Described.{plain_world}
-use Rattle.iiif_event_list.specs.declared.state.State.{State}
+use Rattle.iiif_event_list.specs.declared.replaying.State.{State}
 use Rattle.iiif_event_list.specs.declared.Mode.{Mode}
 use Rattle.iiif_event_list.specs.declared.Mode.TheVariants.{Judging}
 use Rattle.iiif_event_list.specs.declared.Stop.{Stop}

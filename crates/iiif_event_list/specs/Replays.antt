@@ -17,8 +17,8 @@ use Rattle.iiif_event_list.specs.declared.Stop.{Stop}
 use Rattle.iiif_event_list.specs.declared.Stop.TheVariants.{Line, NotNow, Memory, Read, Write}
 use Rattle.iiif_event_list.specs.declared.Mode.{Mode}
 use Rattle.iiif_event_list.specs.declared.Mode.TheVariants.{Judging, Exploring}
-use Rattle.iiif_event_list.specs.declared.state.State.{State}
-use Rattle.iiif_event_list.specs.declared.state.State.TheVariants.{Described, Begun, Lost}
+use Rattle.iiif_event_list.specs.declared.replaying.State.{State}
+use Rattle.iiif_event_list.specs.declared.replaying.State.TheVariants.{Described, Begun, Lost}
 
 -- the world in which the next event happens: none, where it can't begin
 abbrev pub world_in : State → Option World

@@ -7,7 +7,6 @@ pub mod list;
 pub mod reading;
 pub mod replaying;
 mod rows;
-pub mod state;
 pub mod values;
 
 pub use list::replay;

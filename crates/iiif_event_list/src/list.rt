@@ -8,9 +8,9 @@ ghost use Rattle.iiif_event_list.specs.declared.Stop.{Stop};
 ghost use Rattle.iiif_event_list.specs.declared.fault.LineFault.{LineFault};
 ghost use Rattle.iiif_event_list.specs.Replays.{GoesOn, IsBad, LineComes, Replays, Stops, ended_text};
 
-use crate::{Mode, Stop};
 use crate::fault::LineFault;
-use crate::state::{LineOutcome, Replay};
+use crate::replaying::{LineOutcome, Replay};
+use crate::{Mode, Stop};
 use std::alloc::Global;
 use std::io::{BufRead, Write};
 

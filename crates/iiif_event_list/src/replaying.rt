@@ -20,14 +20,40 @@ use crate::describing::Description;
 use crate::fault::LineFault;
 use crate::reading::event;
 use crate::rows::put_rows;
-use crate::state::{LineOutcome, Replay, State};
 use crate::values::put_answer;
-use iiif_machine::{Answer, Call, CallState, Event, Key, WorldFault};
 use iiif_machine::node::Node;
+use iiif_machine::{Answer, Call, CallState, Event, Key, WorldFault};
 use iiif_pixel::NoMemory;
 use iiif_world::World;
 use std::alloc::Global;
 use std::mem::replace;
+
+/// A world that is described line by line, or has begun.
+#[derive(Drop)]
+pub enum State {
+    /// It has not begun.
+    Described(Description),
+    /// It has, and this is what its events so far made of it.
+    Begun(World),
+    /// It could not begin: no event is allowed in it.
+    Lost,
+}
+
+/// Outcome of a line.
+#[derive(Drop)]
+pub struct LineOutcome {
+    /// Text that is written of it.
+    pub text: String,
+    /// Whether it is no event, or one that was allowed.
+    pub allowed: bool,
+}
+
+/// The lines that were read so far: a description, or a world that has begun.
+#[derive(Drop)]
+pub struct Replay {
+    /// Of the world that was read last.
+    pub state: State,
+}
 
 /// The ticket of what a node keeps for a key. The only error is lack of memory.
 fn ticket_at(node: &Node, key: &Key) -> Result<Option<u64>, NoMemory>

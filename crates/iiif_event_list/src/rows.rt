@@ -1,10 +1,14 @@
 //! All rows of a world, as text.
 
-use crate::values::{class_word, put_answer, put_fault, put_key, put_name, put_numbers, put_outcome, put_value};
-use iiif_machine::{Ask, Call, CallState, Flight, Given, Progress, Purpose, Reply, RequestRow, Stage};
+use crate::values::{
+    class_word, put_answer, put_fault, put_key, put_name, put_numbers, put_outcome, put_value,
+};
 use iiif_machine::listing::Entry;
 use iiif_machine::node::Node;
 use iiif_machine::table::{OpenFlight, PlainTable};
+use iiif_machine::{
+    Ask, Call, CallState, Flight, Given, Progress, Purpose, Reply, RequestRow, Stage,
+};
 use iiif_pixel::NoMemory;
 use iiif_tables::{Book, Place};
 use iiif_world::World;

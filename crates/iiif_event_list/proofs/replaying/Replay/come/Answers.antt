@@ -2,11 +2,11 @@ use Rattle.std.proofs.Common.{◌≡◌, true, ℕ, List, [], codes, Result, Ok,
 use Rattle.std.specs.Prelude.{IfOk, OnOk}
 use Rattle.iiif_machine.specs.declared.events.Event.{Event}
 use Rattle.iiif_event_list.specs.declared.fault.LineFault.{LineFault}
-use Rattle.iiif_event_list.specs.declared.state.State.{State}
-use Rattle.iiif_event_list.specs.declared.state.LineOutcome.{LineOutcome}
+use Rattle.iiif_event_list.specs.declared.replaying.State.{State}
+use Rattle.iiif_event_list.specs.declared.replaying.LineOutcome.{LineOutcome}
 use Rattle.iiif_event_list.specs.Spellings.{LineWords}
 use Rattle.iiif_event_list.specs.Replays.{Comes, HasBegun, IsAlone, IsNew, ended_text, next, shown, world_in}
-use Rattle.iiif_event_list.proofs.state.Replay.come.Goals as goal
+use Rattle.iiif_event_list.proofs.replaying.Replay.come.Goals as goal
 
 next_comes : (number : ℕ) (line : List ℕ) (ws : LineWords) (s t : State) (r : Result LineOutcome LineFault) →
     IsAlone ws (codes "world") → OnOk r (IsNew t) → IfOk r (λ o. (o.allowed ≡ true) × (string_bytes o.text ≡ ended_text s)) →

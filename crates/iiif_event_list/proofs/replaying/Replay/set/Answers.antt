@@ -1,8 +1,8 @@
 use Rattle.std.proofs.Common.{◌≡◌, true, IfOk, subst, sym}
 use Rattle.iiif_event_list.specs.Replays.{Sets}
-use Rattle.iiif_event_list.specs.declared.state.State.{State}
-use Rattle.iiif_event_list.specs.declared.state.State.TheVariants.{Described}
-use Rattle.iiif_event_list.proofs.state.Replay.set.Goals as goal
+use Rattle.iiif_event_list.specs.declared.replaying.State.{State}
+use Rattle.iiif_event_list.specs.declared.replaying.State.TheVariants.{Described}
+use Rattle.iiif_event_list.proofs.replaying.Replay.set.Goals as goal
 
 pub returns-in-Described-clause-yes : goal.returns-in-Described-clause-yes
 returns-in-Described-clause-yes c =
