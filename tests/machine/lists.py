@@ -144,9 +144,11 @@ def a_world(chance, is_long):
     if is_long:
         nodes = [Node(name, [other], 2, chance.choice((60, 90, 140, 1000)), chance.randint(2, 8)) for name, other in (("a", "b"), ("b", "a"))]
     lines = ["edge %d" % edge, "limits %d %d%s" % (side, side, " upscale" if limits[2] else ""), "room %d" % room]
+    faults_early = chance.random() < 0.4
+    lines += ["faults early"] * faults_early
     lines += ["picture %s %s" % (name_text(name), picture_text(p)) for name, p in pictures.items()]
     lines += ["node %s %d %d %d %s" % (n.name, n.version, n.tiles.limit, n.tiles.room, " ".join(n.ring)) for n in nodes]
-    return World(Scene(pictures, edge, limits, room), nodes), lines
+    return World(Scene(pictures, edge, limits, room, faults_early), nodes), lines
 
 
 WHOLE, HALF = ("full", "max", "0", "default"), ("full", "2,", "0", "default")
@@ -186,7 +188,7 @@ def allowed(world):
                 yield ("take", f, r)
         elif stage == "fallback" and flight[4][1] is None:
             yield ("go_local", f)
-        elif stage == "parts" and world.all_learned(flight[4][1]) is not None:
+        elif stage == "parts" and world.decided(flight[4][1]) is not None:
             yield ("load", f)
         elif stage == "ready":
             yield ("land", f)
@@ -303,7 +305,7 @@ def flight_word(world, number):
     if stage[0] == "fallback":
         words.append("alone" if stage[1] is None else "with its call")
     if stage[0] == "parts":
-        words.append("known" if world.all_learned(stage[1]) is not None else "not known")
+        words.append("known" if world.decided(stage[1]) is not None else "not known")
     if stage[0] in ("ready", "ended"):
         words.append("none" if stage[1] is None else stage[1][0])
     return " ".join(words + list(stage[2:]))

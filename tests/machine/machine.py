@@ -447,8 +447,8 @@ def version_shown(p):
 
 
 class Scene:
-    def __init__(self, pictures, edge, limits, room):
-        self.pictures, self.edge, self.limits, self.room = pictures, edge, limits, room
+    def __init__(self, pictures, edge, limits, room, faults_early=False):
+        self.pictures, self.edge, self.limits, self.room, self.faults_early = pictures, edge, limits, room, faults_early
 
 
 class World:
@@ -471,16 +471,23 @@ class World:
             return stage[1] if stage[0] == "ended" else None
         return None
 
-    def all_learned(self, calls):
-        outcomes = [self.learned(c) for c in calls]
-        return None if None in outcomes else outcomes
+    def decided(self, calls):
+        """What all of the calls know; where faults are early, what the first of them know, up to one that knows a fault."""
+        outcomes = []
+        for outcome in (self.learned(c) for c in calls):
+            if outcome is None:
+                return None
+            outcomes.append(outcome)
+            if self.scene.faults_early and outcome[0] == "fault":
+                break
+        return outcomes
 
     def call(self, node, purpose, key, kind=None):
         self.calls.append([node, key, kind or self.nodes[node].kind(key), purpose, ("fresh",)])
 
     def settle(self):
         flights = [(f, self.learned(f[4][1])) for f in self.flights if f[4][0] == "fallback" and f[4][1] is not None]
-        requests = [(r, self.all_learned(r[2][2])) for r in self.requests if r[2][0] == "waiting"]
+        requests = [(r, self.decided(r[2][2])) for r in self.requests if r[2][0] == "waiting"]
         for f, outcome in flights:
             if outcome is not None:
                 f[4] = ("ready", outcome, "nowhere")
@@ -615,7 +622,7 @@ class World:
         if not f or f[2] != LOCAL:
             return False
         if f[4][0] == "parts":
-            outcomes = self.all_learned(f[4][1])
+            outcomes = self.decided(f[4][1])
             if outcomes is None:
                 return False
             fault = next((o for o in outcomes if o[0] == "fault"), None)

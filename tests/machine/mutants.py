@@ -106,6 +106,11 @@ MUTANTS = [
     ("a flight isn't told of its own call", 'for f in self.flights if f[4][0] == "fallback" and', "for f in self.flights if False and"),
     ("a request isn't told of its calls", 'for r in self.requests if r[2][0] == "waiting"]', "for r in self.requests if False]"),
     ("a request's last fault counts", 'fault = next((o for o in outcomes if o[0] == "fault"), None)\n                p', 'fault = next((o for o in outcomes[::-1] if o[0] == "fault"), None)\n                p'),
+    ("faults are never early", "if self.scene.faults_early and", "if False and"),
+    ("faults are early in each list", 'if self.scene.faults_early and outcome[0] == "fault":', 'if outcome[0] == "fault":'),
+    ("a value is early, too", 'if self.scene.faults_early and outcome[0] == "fault":', "if self.scene.faults_early:"),
+    ("an early fault doesn't wait for the calls before it", "            if outcome is None:\n                return None",
+     "            if outcome is None and self.scene.faults_early:\n                continue\n            if outcome is None:\n                return None"),
     # Values and images
     ("parts column by column", "for j in (0, 1) for i in (0, 1)]", "for i in (0, 1) for j in (0, 1)]"),
     ("parts outside of the region", "return [k for k in below if all(0 < n for n in part_of(square(2 ** k[5] * edge, k[6], k[7]), rect)[2:])]", "return below"),

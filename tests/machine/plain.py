@@ -10,7 +10,7 @@ import sys
 from urllib.parse import unquote
 
 from lists import picture_text
-from machine import Scene, crop, in_quality, resolved, scale, turn
+from machine import crop, in_quality, resolved, scale, turn
 from text import Text
 
 WANT = re.compile(r"(\d+) want \d+ (\S+) (\S+ \S+ \S+ \S+): done$")
@@ -34,7 +34,7 @@ def scenes(lines):
     for number, line in enumerate(lines + ["world"], 1):
         words = line.split()
         if words == ["world"]:
-            scene = Scene(text.pictures, text.edge, text.limits, text.room)
+            scene = text.scene()
             found.update((n, scene) for n in range(first, number + 1))
             text.begin()
             first = number + 1

@@ -56,7 +56,7 @@ class Text:
 
     def begin(self):
         self.pictures, self.nodes, self.world = {}, [], None
-        self.edge, self.limits, self.room = 256, (4096, 4096, False), 65536
+        self.edge, self.limits, self.room, self.faults_early = 256, (4096, 4096, False), 65536, False
 
     def set(self, words):
         """Whether the words describe the world."""
@@ -65,6 +65,10 @@ class Text:
             self.edge, = numbers(rest)
         elif kind == "room":
             self.room, = numbers(rest)
+        elif kind == "faults":
+            if rest != ["early"]:
+                raise ValueError(kind)
+            self.faults_early = True
         elif kind == "limits":
             self.limits = (*numbers(rest[:2]), rest[2:] == ["upscale"])
         elif kind == "picture":
@@ -90,9 +94,12 @@ class Text:
             return (kind, *numbers(rest))
         raise ValueError(kind)
 
+    def scene(self):
+        return Scene(self.pictures, self.edge, self.limits, self.room, self.faults_early)
+
     def begun(self):
         if self.world is None:
-            self.world = World(Scene(self.pictures, self.edge, self.limits, self.room), self.nodes)
+            self.world = World(self.scene(), self.nodes)
         return self.world
 
     def ended(self):

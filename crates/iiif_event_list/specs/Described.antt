@@ -11,7 +11,7 @@ use Rattle.iiif_event_list.specs.Settings.{Settings, settings_of}
 
 -- the world of which lines say this, in which nothing has happened
 abbrev pub first_by : Settings → World
-first_by s = new_world (scene_of s.items s.edge s.limits s.room) (map node_for s.setups)
+first_by s = new_world (scene_of s.items s.edge s.limits s.room s.faults_early) (map node_for s.setups)
 
 -- the world that was described, in which nothing has happened
 abbrev pub first_of : Description → World
@@ -30,9 +30,9 @@ pub record CanBegin (d : Description) : Type 0 where
 abbrev pub plain_limits : Limits
 plain_limits = record { max_w = 4096; max_h = 4096; upscale = false }
 
--- where no line says anything: tiles of 256 places a side, and a room of 65,536 sums for a plan
+-- where no line says anything: tiles of 256 places a side, a room of 65,536 sums for a plan, and faults that aren't early
 abbrev pub plain_settings : Settings
-plain_settings = record { edge = 256; limits = plain_limits; room = 65536; items = []; setups = [] }
+plain_settings = record { edge = 256; limits = plain_limits; room = 65536; faults_early = false; items = []; setups = [] }
 
 abbrev pub plain_world : World
 plain_world = first_by plain_settings

@@ -1,5 +1,5 @@
 -- What a line of settings sets.
-use Rattle.std.specs.Prelude.{◌≡◌, ◌⊎◌, ◌*◌, ◌<◌, ℕ, List, [], ◌∷◌, ◌++◌, true, false, codes, drop, length}
+use Rattle.std.specs.Prelude.{◌≡◌, ◌⊎◌, ◌*◌, ◌<◌, ℕ, List, [], ◌∷◌, ◌++◌, Bool, true, false, codes, drop, length}
 use Rattle.std.specs.List.{AllZip}
 use denote.Ref.{Bor}
 use Rattle.iiif_pixel.specs.declared.geometry.Dim.{Dim}
@@ -16,17 +16,26 @@ use Rattle.iiif_event_list.specs.declared.describing.Description.{Description}
 use Rattle.iiif_event_list.specs.Spellings.{IsDimAt, IsNumber, LineWords, NameAt, Names, NumberAt, WordAt}
 use Rattle.iiif_event_list.specs.Texts.{kind_word}
 
--- What lines say of a world: the side of a tile, the limits on results, the room of a plan, the pictures with their names, and the nodes.
+-- What lines say of a world: the side of a tile, the limits on results, the room of a plan, whether faults are early, the pictures with
+-- their names, and the nodes.
 pub record Settings : Type 0 where
   pub edge : ℕ
   pub limits : Limits
   pub room : ℕ
+  pub faults_early : Bool
   pub items : List Item
   pub setups : List Setup
 
 -- what a description says
 abbrev pub settings_of : Description → Settings
-settings_of d = record { edge = d.edge; limits = d.limits; room = d.room; items = d.items.items; setups = d.setups.items }
+settings_of d = record {
+  edge = d.edge;
+  limits = d.limits;
+  room = d.room;
+  faults_early = d.faults_early;
+  items = d.items.items;
+  setups = d.setups.items;
+}
 
 -- the words are numbers, one each; likewise names
 abbrev pub AreNumbers : LineWords → List ℕ → Type 0
@@ -79,6 +88,8 @@ pub data IsSettingOf (ws : LineWords) (before after : Settings) : Type 0 where
       (set : after ≡ record before { edge = n }) → IsSettingOf ws before after
   room : (word : WordAt ws 0 (codes "room")) (count : length ws ≡ 2) (n : ℕ) (sums : NumberAt ws 1 n)
       (set : after ≡ record before { room = n }) → IsSettingOf ws before after
+  faults : (word : WordAt ws 0 (codes "faults")) (count : length ws ≡ 2) (early : WordAt ws 1 (codes "early"))
+      (set : after ≡ record before { faults_early = true }) → IsSettingOf ws before after
   limits : (word : WordAt ws 0 (codes "limits")) (l : Limits) (read : IsLimits ws l)
       (set : after ≡ record before { limits = l }) → IsSettingOf ws before after
   picture : (word : WordAt ws 0 (codes "picture")) (i : Item) (read : IsPicture ws i)

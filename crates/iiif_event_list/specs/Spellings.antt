@@ -187,6 +187,7 @@ AreNoEvent ws = (e : Event) → Fits e → ¬ (IsEventOf ws e)
 pub data IsSetting (ws : LineWords) : Type 0 where
   edge : (is : WordAt ws 0 (codes "edge")) → IsSetting ws
   room : (is : WordAt ws 0 (codes "room")) → IsSetting ws
+  faults : (is : WordAt ws 0 (codes "faults")) → IsSetting ws
   limits : (is : WordAt ws 0 (codes "limits")) → IsSetting ws
   picture : (is : WordAt ws 0 (codes "picture")) → IsSetting ws
   node : (is : WordAt ws 0 (codes "node")) → IsSetting ws

@@ -26,6 +26,7 @@ pub struct Description {
     edge: u32,
     limits: Limits,
     room: u64,
+    faults_early: bool,
     items: Vec<Item>,
     setups: Vec<Setup>,
 }
@@ -291,9 +292,22 @@ fn room(words: &[&str]) -> Result<u64, LineFault>
     number(words, 1)
 }
 
+/// `faults early`: a fault counts as soon as it is certain
+fn faults_early(words: &[&str]) -> Result<bool, LineFault>
+    ensures { IfOk result (λ early. (length words.now ≡ 2) × WordAt words.now 1 (codes "early") × (early ≡ true)) }
+{
+    if words.len() != 2 {
+        return Err(LineFault::Bad);
+    }
+    match word(words, 1)? {
+        "early" => Ok(true),
+        _ => Err(LineFault::Bad),
+    }
+}
+
 impl Description {
-    /// A world without pictures and nodes: tiles of 256 places a side, images of at most 4096 by 4096 that aren't scaled up, and a room of
-    /// 65,536 sums for a plan.
+    /// A world without pictures and nodes: tiles of 256 places a side, images of at most 4096 by 4096 that aren't scaled up, a room of
+    /// 65,536 sums for a plan, and faults that aren't early.
     pub fn new(alloc: Global) -> Description
         ensures { settings_of result ≡ plain_settings }
     {
@@ -305,6 +319,7 @@ impl Description {
                 upscale: false,
             },
             room: 65_536,
+            faults_early: false,
             items: Vec::new(alloc),
             setups: Vec::new(alloc),
         }
@@ -342,6 +357,10 @@ impl Description {
                 self.room = room(words)?;
                 Ok(true)
             }
+            "faults" => {
+                self.faults_early = faults_early(words)?;
+                Ok(true)
+            }
             "limits" => {
                 self.limits = limits(words)?;
                 Ok(true)
@@ -368,10 +387,11 @@ impl Description {
             edge,
             limits,
             room,
+            faults_early,
             items,
             setups,
         } = self;
-        match World::new(alloc, items, edge, limits, room, setups) {
+        match World::new(alloc, items, edge, limits, room, faults_early, setups) {
             Ok(world) => Ok(world),
             Err(SetupFault::NoMemory) => Err(LineFault::NoMemory),
             Err(_) => Err(LineFault::Bad),

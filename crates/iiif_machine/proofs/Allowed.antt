@@ -11,7 +11,7 @@ use Rattle.iiif_machine.specs.Tables.{Class, Wide, Local, Outcome, Place, enter}
 use Rattle.iiif_machine.specs.Rows.{Node, Purpose, ForRequest, ForPart, ForFallback, ForAsk, Caller, CallState, Fresh, Hit, In, Gone, Call}
 use Rattle.iiif_machine.specs.Rows.{Lead, Stage, New, Looked, Asking, Fallback, Parts, Ready, Ended, Flight, Reply}
 use Rattle.iiif_machine.specs.Worlds.{World, ◌>>=◌, version_shown, version_at, speaker, owner_of, table_at, with_stage, with_ask}
-use Rattle.iiif_machine.specs.Worlds.{with_reply, learned, all_learned, collected, outcome_from}
+use Rattle.iiif_machine.specs.Worlds.{with_reply, learned, decided, collected, outcome_from}
 use Rattle.iiif_machine.specs.Steps.{Event, Want, Enter, Again, AskPeer, Serve, Take, Lose, GoLocal, Load, SourceFault, Land, Evict, Stop}
 use Rattle.iiif_machine.specs.Steps.{after_enter, after_again, after_ask_peer, after_reply, after_take, after_lose, after_go_local}
 use Rattle.iiif_machine.specs.Steps.{after_load, after_fault, after_land, step}
@@ -85,10 +85,10 @@ loads : (w : World) (f : ℕ) (l : Lead) (n : Node) (c : Class) → c ≡ Local 
 loads w f l n Local e = (_, refl)
 loads w f l n Wide e = absurd cc
 
-merges : (w : World) (f : ℕ) (l : Lead) (n : Node) (c : Class) (cs : List ℕ) (os : List Outcome) → c ≡ Local → all_learned w cs ≡ Some os →
+merges : (w : World) (f : ℕ) (l : Lead) (n : Node) (c : Class) (cs : List ℕ) (os : List Outcome) → c ≡ Local → decided w cs ≡ Some os →
     Goes (after_load w f l n c (Parts cs))
 merges w f l n Local cs os e h =
-    goes (all_learned w cs) (λ os. Some (with_stage w f l (Ready (outcome_from w.scene l.key (collected os)) _))) os h (_, refl)
+    goes (decided w cs) (λ os. Some (with_stage w f l (Ready (outcome_from w.scene l.key (collected os)) _))) os h (_, refl)
 merges w f l n Wide cs os e h = absurd cc
 
 fails : (w : World) (f : ℕ) (l : Lead) (e : ReadFault) (c : Class) (ks : Option (List Key)) → c ≡ Local → ks ≡ None →
@@ -136,7 +136,7 @@ allowed_goes w (Load f) h a =
     let fl : Flight = record { lead = b.0; stage = Looked } in
     let n = lead_node w f fl h b.1 in
     goes (slice_get w.flights f) _ fl b.1 (goes (slice_get w.nodes b.0.node) _ n.0 n.1 (loads w f b.0 n.0 b.0.class b.2)))
-    (λ (b : (cs : List ℕ) × IsOfClassAt w f Local (Parts cs) × ((os : List Outcome) × (all_learned w cs ≡ Some os))).
+    (λ (b : (cs : List ℕ) × IsOfClassAt w f Local (Parts cs) × ((os : List Outcome) × (decided w cs ≡ Some os))).
     let l = b.1.0 in
     let fl : Flight = record { lead = l; stage = Parts b.0 } in
     let n = lead_node w f fl h b.1.1 in
@@ -219,12 +219,12 @@ only_in_vain w f l (Ended o) v h = no_world v h
 
 abbrev Loads : World → Class → Stage → Type 0
 Loads w c s = ((s ≡ Looked) × (c ≡ Local)) ⊎ ((cs : List ℕ) × (s ≡ Parts cs) × (c ≡ Local) ×
-    ((os : List Outcome) × (all_learned w cs ≡ Some os)))
+    ((os : List Outcome) × (decided w cs ≡ Some os)))
 
 only_loads : (w : World) (f : ℕ) (l : Lead) (n : Node) (c : Class) (s : Stage) (v : World) → after_load w f l n c s ≡ Some v → Loads w c s
 only_loads w f l n Local Looked v h = inl (refl, refl)
 only_loads w f l n Local (Parts cs) v h =
-    let os = bind_inv (all_learned w cs) (λ os. Some (with_stage w f l (Ready (outcome_from w.scene l.key (collected os)) _))) v h in
+    let os = bind_inv (decided w cs) (λ os. Some (with_stage w f l (Ready (outcome_from w.scene l.key (collected os)) _))) v h in
     inr (cs, refl, refl, (os.0, os.1))
 only_loads w f l n Wide s v h = no_world v h
 only_loads w f l n Local New v h = no_world v h
@@ -313,7 +313,7 @@ goes_allowed w (Load f) v h =
     let n = bind_inv (slice_get w.nodes fl.0.lead.node) _ v fl.2 in
     ⊎_elim
     (λ (e : (fl.0.stage ≡ Looked) × (fl.0.lead.class ≡ Local)). inl (fl.0.lead, at_stage w f fl.0 Looked fl.1 e.0, e.1))
-    (λ (e : (cs : List ℕ) × (fl.0.stage ≡ Parts cs) × (fl.0.lead.class ≡ Local) × ((os : List Outcome) × (all_learned w cs ≡ Some os))).
+    (λ (e : (cs : List ℕ) × (fl.0.stage ≡ Parts cs) × (fl.0.lead.class ≡ Local) × ((os : List Outcome) × (decided w cs ≡ Some os))).
     inr (e.0, (fl.0.lead, at_stage w f fl.0 (Parts e.0) fl.1 e.1, e.2), e.3))
     (only_loads w f fl.0.lead n.0 fl.0.lead.class fl.0.stage v n.2)
 goes_allowed w (SourceFault f e) v h =

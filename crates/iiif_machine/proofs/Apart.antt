@@ -14,7 +14,7 @@ use Rattle.iiif_machine.proofs.Words.{TableLaws}
 use Rattle.iiif_machine.specs.Rows.{Node, Purpose, ForRequest, ForPart, ForFallback, ForAsk, Caller, CallState, Fresh, Hit, In, Gone, Call}
 use Rattle.iiif_machine.specs.Rows.{Lead, Stage, New, Looked, Asking, Fallback, Parts, Ready, Ended, Flight, Reply, RequestInfo}
 use Rattle.iiif_machine.specs.Worlds.{World, ◌>>=◌, version_shown, version_at, speaker, table_at, put_table, with_node, with_stage}
-use Rattle.iiif_machine.specs.Worlds.{with_state, with_flight, with_ask, with_reply, learned, all_learned, collected, outcome_from}
+use Rattle.iiif_machine.specs.Worlds.{with_state, with_flight, with_ask, with_reply, learned, decided, collected, outcome_from}
 use Rattle.iiif_machine.specs.Worlds.{settled, known_by}
 use Rattle.iiif_machine.specs.Steps.{Want, Enter, Again, AskPeer, Serve, Take, Lose, GoLocal, Load, SourceFault, Land, Evict, Stop}
 use Rattle.iiif_machine.specs.Steps.{after_want, is_open, is_open_for, lead_of, after_meeting, after_enter, stage_found, after_again}
@@ -227,7 +227,7 @@ loading_apart : (w : World) (f : ℕ) (l : Lead) (n : Node) (c : Class) (x : Sta
     slice_get w.flights f ≡ Some (record { lead = l; stage = x }) → After IsApart (after_load w f l n c x)
 loading_apart w f l n Local Looked h at = begun_apart w f l n (parts_of l.key) h at
 loading_apart w f l n Local (Parts cs) h at =
-    after_bind IsApart (all_learned w cs) (λ os. Some (with_stage w f l (Ready (outcome_from w.scene l.key (collected os)) _)))
+    after_bind IsApart (decided w cs) (λ os. Some (with_stage w f l (Ready (outcome_from w.scene l.key (collected os)) _)))
     (λ os _. apart_stage w _ f l (Parts cs) _ at refl refl refl h)
 loading_apart w f l n Wide x h at = tt
 loading_apart w f l n Local New h at = tt

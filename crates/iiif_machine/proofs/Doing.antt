@@ -11,7 +11,7 @@ use Rattle.iiif_machine.specs.Rows.{Node, Purpose, ForRequest, ForPart, ForFallb
 use Rattle.iiif_machine.specs.Rows.{Lead, Stage, New, Looked, Asking, Fallback, Parts, Ready, Ended, Ask, Reply}
 use Rattle.iiif_machine.specs.Worlds.{World, version_shown, version_at, speaker, owner_of, call_for, numbers, table_at, put_table}
 use Rattle.iiif_machine.specs.Worlds.{with_node, with_stage, with_state, with_calls, with_flight, with_ask, with_reply, with_given, learned}
-use Rattle.iiif_machine.specs.Worlds.{all_learned, collected, outcome_from, settled}
+use Rattle.iiif_machine.specs.Worlds.{decided, collected, outcome_from, settled}
 use Rattle.iiif_machine.specs.Steps.{Event, Want, Enter, Again, AskPeer, Serve, Take, Lose, GoLocal, Load, SourceFault, Land, Evict, Stop}
 use Rattle.iiif_machine.specs.Steps.{after_want, is_open_for, lead_of, after_meeting, after_enter, after_look, after_again, after_ask_peer}
 use Rattle.iiif_machine.specs.Steps.{caller_serving, after_reply, stage_taken, after_take, after_lose, after_go_local, after_begin}
@@ -71,7 +71,7 @@ pub data Does (w : World) : Event → World → Type 0 where
   split : (f : ℕ) (l : Lead) (n : Node) (ks : List Key) → Flies w f l Looked → Stands w l.node n → l.class ≡ Local →
       parts_of l.key ≡ Some ks →
       Does w (Load f) (with_calls (with_stage w f l (Parts (numbers (length w.calls) ks))) (map (call_for l.node n (ForPart f)) ks))
-  merged : (f : ℕ) (l : Lead) (cs : List ℕ) (os : List Outcome) → Flies w f l (Parts cs) → l.class ≡ Local → all_learned w cs ≡ Some os →
+  merged : (f : ℕ) (l : Lead) (cs : List ℕ) (os : List Outcome) → Flies w f l (Parts cs) → l.class ≡ Local → decided w cs ≡ Some os →
       Does w (Load f) (with_stage w f l (Ready (outcome_from w.scene l.key (collected os)) Main))
   failed : (f : ℕ) (x : ReadFault) (l : Lead) → Flies w f l Looked → l.class ≡ Local → parts_of l.key ≡ None →
       Does w (SourceFault f x) (with_stage (with_given w (record { node = l.node; name = name_of l.key; fault = x })) f l
@@ -161,7 +161,7 @@ loading : (w v : World) (f : ℕ) (l : Lead) (n : Node) (c : Class) (s : Stage) 
     after_load w f l n c s ≡ Some v → Does w (Load f) v
 loading w v f l n Local Looked at there is h = beginning w v f l n (parts_of l.key) at there is refl h
 loading w v f l n Local (Parts cs) at there is h =
-    let os = bind_inv (all_learned w cs) _ v h in
+    let os = bind_inv (decided w cs) _ v h in
     subst (Does w (Load f)) (same_Some _ v os.2) (merged f l cs os.0 at is os.1)
 loading w v f l n Wide s at there is h = absurd (none-some v h)
 loading w v f l n Local New at there is h = absurd (none-some v h)

@@ -13,7 +13,7 @@ use Rattle.iiif_machine.specs.Tables.{Local, Outcome, Place, Main, Peer, again}
 use Rattle.iiif_machine.specs.Rows.{Node, ForRequest, ForPart, ForFallback, Caller, CallState, Fresh, Hit, In, Gone, Call, Lead, Stage}
 use Rattle.iiif_machine.specs.Rows.{New, Looked, Asking, Fallback, Parts, Ready}
 use Rattle.iiif_machine.specs.Rows.{Ended, Flight, RequestInfo, Progress, Waiting, Answered, Dropped, RequestRow}
-use Rattle.iiif_machine.specs.Worlds.{World, ◌>>=◌, fresh, call_for, numbers, outcome_of, known_by, learned, all_learned, ready_with}
+use Rattle.iiif_machine.specs.Worlds.{World, ◌>>=◌, fresh, call_for, numbers, outcome_of, known_by, learned, decided, ready_with}
 use Rattle.iiif_machine.specs.Worlds.{resumed_stage, resumed}
 use Rattle.iiif_machine.specs.Worlds.{answered_with, progressed, answered, settled, with_node, with_stage, with_state, with_calls}
 use Rattle.iiif_machine.specs.Worlds.{with_given}
@@ -24,7 +24,8 @@ use Rattle.iiif_machine.specs.Steps.{progress_stopped, request_stopped, after_wa
 use Rattle.iiif_machine.specs.Sound.{IsHonestWorld}
 use Rattle.iiif_machine.specs.Frames.{IsSettled, NewIsSettled, EachStaysSettled}
 use Rattle.iiif_machine.proofs.Effects.{settled_knows}
-use Rattle.iiif_machine.proofs.Learning.{get_mapped}
+use Rattle.iiif_machine.proofs.Learning.{bind_inv, get_mapped}
+use Rattle.iiif_machine.proofs.Deciding.{KnowsMore, none_from, decided_none, first_open}
 use Rattle.iiif_machine.proofs.Lists.{get_end, position_found}
 use Rattle.iiif_machine.proofs.Registers.{set_cases, end_cases}
 use Rattle.iiif_machine.proofs.Frames.{append_cases, all_settled}
@@ -44,62 +45,48 @@ CallsTellNoMore w v = (c : ℕ) (x : Call) → slice_get v.calls c ≡ Some x �
 abbrev tells : Option Flight → Option Outcome
 tells x = x >>= (λ (y : Flight). outcome_of y.stage)
 
-flight_none : (fs gs : List Flight) → FlightsTellNoMore fs gs → (g : ℕ) → tells (slice_get fs g) ≡ None → tells (slice_get gs g) ≡ None
-flight_none fs gs h g none = by (slice_get gs g) refl
-  where
-    by : (x : Option Flight) → slice_get gs g ≡ x → tells x ≡ None
-    by None at = refl
-    by (Some y) at = ⊎_elim (λ (was : slice_get fs g ≡ Some y). sym (ap tells was) ∙ none) (λ (e : outcome_of y.stage ≡ None). e) (h g y at)
+flight_tells : (fs gs : List Flight) → FlightsTellNoMore fs gs → (g : ℕ) (o : Outcome) → tells (slice_get gs g) ≡ Some o →
+    tells (slice_get fs g) ≡ Some o
+flight_tells fs gs h g o knows =
+    let y = bind_inv (slice_get gs g) (λ (z : Flight). outcome_of z.stage) o knows in
+    ⊎_elim
+    (λ (was : slice_get fs g ≡ Some y.0). ap tells was ∙ y.2)
+    (λ (e : outcome_of y.0.stage ≡ None). absurd (none-some o (sym e ∙ y.2)))
+    (h g y.0 y.1)
 
-state_none : (fs gs : List Flight) → FlightsTellNoMore fs gs → (s : CallState) → known_by fs s ≡ None → known_by gs s ≡ None
-state_none fs gs h Fresh none = refl
-state_none fs gs h (Hit v) none = none
-state_none fs gs h (In g) none = flight_none fs gs h g none
-state_none fs gs h Gone none = refl
+state_tells : (fs gs : List Flight) → FlightsTellNoMore fs gs → (s : CallState) (o : Outcome) → known_by gs s ≡ Some o →
+    known_by fs s ≡ Some o
+state_tells fs gs h Fresh o knows = knows
+state_tells fs gs h (Hit v) o knows = knows
+state_tells fs gs h (In g) o knows = flight_tells fs gs h g o knows
+state_tells fs gs h Gone o knows = knows
 
-abbrev NoMore : World → World → Type 0
-NoMore w v = (c : ℕ) → learned w c ≡ None → learned v c ≡ None
+no_more : (w v : World) → FlightsTellNoMore w.flights v.flights → CallsTellNoMore w v → KnowsMore v w
+no_more w v flights calls c o knows =
+    let y = bind_inv (slice_get v.calls c) (λ (z : Call). known_by v.flights z.state) o knows in
+    ⊎_elim
+    (λ (was : slice_get w.calls c ≡ Some y.0).
+    ap (λ (z : Option Call). z >>= (λ (k : Call). known_by w.flights k.state)) was
+    ∙ state_tells w.flights v.flights flights y.0.state o y.2)
+    (λ (e : known_by v.flights y.0.state ≡ None). absurd (none-some o (sym e ∙ y.2)))
+    (calls c y.0 y.1)
 
-no_more : (w v : World) → FlightsTellNoMore w.flights v.flights → CallsTellNoMore w v → NoMore w v
-no_more w v flights calls c none = by (slice_get v.calls c) refl
-  where
-    by : (x : Option Call) → slice_get v.calls c ≡ x → (x >>= (λ (y : Call). known_by v.flights y.state)) ≡ None
-    by None at = refl
-    by (Some y) at = ⊎_elim
-        (λ (was : slice_get w.calls c ≡ Some y). state_none w.flights v.flights flights y.state
-        (sym (ap (λ (z : Option Call). z >>= (λ (k : Call). known_by w.flights k.state)) was) ∙ none))
-        (λ (e : known_by v.flights y.state ≡ None). e) (calls c y at)
-
-rest_none : (o : Outcome) (ys : Option (List Outcome)) → (ys >>= (λ os. Some (o ∷ os))) ≡ None → ys ≡ None
-rest_none o None e = refl
-rest_none o (Some os) e = absurd cc
-
-bind_none : (x : Option Outcome) (ys : Option (List Outcome)) → ys ≡ None → (x >>= (λ o. ys >>= (λ os. Some (o ∷ os)))) ≡ None
-bind_none None ys e = refl
-bind_none (Some o) ys e = ap (λ zs. zs >>= (λ os. Some (o ∷ os))) e
-
-all_none : (w v : World) → NoMore w v → (cs : List ℕ) → all_learned w cs ≡ None → all_learned v cs ≡ None
-all_none w v h [] e = absurd cc
-all_none w v h (c ∷ cs) e = by (learned w c) refl e (all_none w v h cs)
-  where
-    by : (x : Option Outcome) → learned w c ≡ x → (x >>= (λ o. all_learned w cs >>= (λ os. Some (o ∷ os)))) ≡ None →
-        (all_learned w cs ≡ None → all_learned v cs ≡ None) → all_learned v (c ∷ cs) ≡ None
-    by None knows e rest = ap (λ z. z >>= (λ o. all_learned v cs >>= (λ os. Some (o ∷ os)))) (h c knows)
-    by (Some o) knows e rest = bind_none (learned v c) (all_learned v cs) (rest (rest_none o (all_learned w cs) e))
+not_known : (w v : World) → KnowsMore v w → (c : ℕ) → learned w c ≡ None → learned v c ≡ None
+not_known w v h c = none_from (learned w c) (learned v c) (h c)
 
 -- so nothing is due where what waits waited before, or for what isn't known
 
 abbrev NewFlights : World → World → Type 0
 NewFlights w v = (f : ℕ) (l : Lead) (c : ℕ) → Flies v f l (Fallback (Some c)) → Flies w f l (Fallback (Some c)) ⊎ (learned v c ≡ None)
 
-still : (w v : World) → IsSettled w → FlightsTellNoMore w.flights v.flights → CallsTellNoMore w v → NewFlights w v →
+still : (w v : World) → IsSettled w → v.scene ≡ w.scene → FlightsTellNoMore w.flights v.flights → CallsTellNoMore w v → NewFlights w v →
     v.requests ≡ w.requests → IsSettled v
-still w v due flights calls from same =
+still w v due scene flights calls from same =
     let more = no_more w v flights calls in
     record {
-      flights = λ f l c at. ⊎_elim (λ (was : Flies w f l (Fallback (Some c))). more c (due.flights f l c was))
+      flights = λ f l c at. ⊎_elim (λ (was : Flies w f l (Fallback (Some c))). not_known w v more c (due.flights f l c was))
           (λ (e : learned v c ≡ None). e) (from f l c at);
-      requests = λ r q x cs at. all_none w v more cs (due.requests r q x cs (ap (λ qs. slice_get qs r) (sym same) ∙ at));
+      requests = λ r q x cs at. decided_none v w scene more cs (due.requests r q x cs (ap (λ qs. slice_get qs r) (sym same) ∙ at));
     }
 
 flights_same : (fs : List Flight) → FlightsTellNoMore fs fs
@@ -121,13 +108,13 @@ calls_set w v d who s same none c x at = ⊎_elim
     (set_cases w.calls d c x (record { caller = who; state = s }) (ap (λ cs. slice_get cs c) (sym same) ∙ at))
 
 -- a stage that tells nothing is set
-set_still : (w v : World) (f : ℕ) (l : Lead) (new : Stage) → IsSettled w →
+set_still : (w v : World) (f : ℕ) (l : Lead) (new : Stage) → IsSettled w → v.scene ≡ w.scene →
     v.flights ≡ slice_set w.flights f (record { lead = l; stage = new }) →
     outcome_of new ≡ None → ((c : ℕ) → new ≡ Fallback (Some c) → learned v c ≡ None) → CallsTellNoMore w v → v.requests ≡ w.requests →
     IsSettled v
-set_still w v f l new due same none waits calls requests =
+set_still w v f l new due scene same none waits calls requests =
     let row : Flight = record { lead = l; stage = new } in
-    still w v due
+    still w v due scene
     (λ g y at. ⊎_elim
     (λ (x : (g ≡ f) × (y ≡ row)). inr (ap (λ (z : Flight). outcome_of z.stage) x.1 ∙ none))
     (λ (x : slice_get w.flights g ≡ Some y). inl x)
@@ -194,12 +181,12 @@ waits_none u q x y cs ds p None e = (cc, refl)
 waits_none u q x y cs ds p (Some os) e = absurd cc
 
 progress_none : (w u : World) (r : ℕ) (q : RequestInfo) (x : Progress) (y : Resolved) (ds : List ℕ) → IsHonestWorld w → u.scene ≡ w.scene →
-    slice_get w.requests r ≡ Some (record { info = q; progress = x }) → progressed u q x ≡ Waiting y ds → all_learned u ds ≡ None
+    slice_get w.requests r ≡ Some (record { info = q; progress = x }) → progressed u q x ≡ Waiting y ds → decided u ds ≡ None
 progress_none w u r q (Waiting x cs) y ds honest scene at e =
     let h = honest.requests r (record { info = q; progress = Waiting x cs }) at in
     let shown : u.scene.shows q.name ≡ Some h.0 = ap (λ s. s.shows q.name) scene ∙ h.1 in
-    let is = waits_none u q x y cs ds h.0 (all_learned u cs) (ap (λ p. answered_with u q x cs p (all_learned u cs)) (sym shown) ∙ e) in
-    subst (λ zs. all_learned u zs ≡ None) is.0 is.1
+    let is = waits_none u q x y cs ds h.0 (decided u cs) (ap (λ p. answered_with u q x cs p (decided u cs)) (sym shown) ∙ e) in
+    subst (λ zs. decided u zs ≡ None) is.0 is.1
 progress_none w u r q (Answered a) y ds honest scene at e = absurd cc
 progress_none w u r q Dropped y ds honest scene at e = absurd cc
 
@@ -218,8 +205,8 @@ settled_still w u honest scene same = record {
 -- Want
 
 first_none : (w v : World) (who : Caller) (rest : List Caller) (cs : List ℕ) → v.calls ≡ w.calls ++ map fresh (who ∷ rest) →
-    all_learned v (length w.calls ∷ cs) ≡ None
-first_none w v who rest cs same = ap (λ z. z >>= (λ o. all_learned v cs >>= (λ os. Some (o ∷ os))))
+    decided v (length w.calls ∷ cs) ≡ None
+first_none w v who rest cs same = first_open v (length w.calls) cs
     (ap (λ (z : Option Call). z >>= (λ (k : Call). known_by v.flights k.state))
     (ap (λ xs. slice_get xs (length w.calls)) same ∙ get_end w.calls (fresh who) (map fresh rest)))
 
@@ -252,13 +239,13 @@ want_still w n p q (Ok r) due some = by (items w.scene q.name p r) (some r refl)
         let v = record w { requests = w.requests ++ row ∷ []; calls = w.calls ++ map fresh whos } in
         let more = no_more w v (flights_same w.flights) (calls_more w v whos refl) in
         record {
-          flights = λ f l c at. more c (due.flights f l c at);
+          flights = λ f l c at. not_known w v more c (due.flights f l c at);
           requests = λ i y x cs at. ⊎_elim
               (λ (new : (i ≡ length w.requests) × (record { info = y; progress = Waiting x cs } ≡ row)).
-              subst (λ zs. all_learned v zs ≡ None) (sym (waits_same x r cs _ (ap (λ (z : RequestRow). z.progress) new.1)))
+              subst (λ zs. decided v zs ≡ None) (sym (waits_same x r cs _ (ap (λ (z : RequestRow). z.progress) new.1)))
               (first_none w v (call_for q.node n (ForRequest (length w.requests)) k) _ _ refl))
               (λ (was : slice_get w.requests i ≡ Some (record { info = y; progress = Waiting x cs })).
-              all_none w v more cs (due.requests i y x cs was))
+              decided_none v w refl more cs (due.requests i y x cs was))
               (end_cases w.requests i (record { info = y; progress = Waiting x cs }) row at);
         }
 
@@ -326,24 +313,26 @@ stop_still w i n due =
     record {
       flights = λ f l c at.
           let x = get_mapped (flight_stopped i) w.flights f _ at in
-          more c (due.flights f l c (x.1 ∙ ap Some (stopped_from x.0 (x.0.lead.node == i) l c x.2)));
+          not_known w v more c (due.flights f l c (x.1 ∙ ap Some (stopped_from x.0 (x.0.lead.node == i) l c x.2)));
       requests = λ r q y cs at.
           let x = get_mapped (request_stopped i) w.requests r _ at in
-          all_none w v more cs (due.requests r q y cs (x.1 ∙ ap Some (dropped_from x.0 (x.0.info.node == i) q y cs x.2)));
+          decided_none v w refl more cs (due.requests r q y cs (x.1 ∙ ap Some (dropped_from x.0 (x.0.info.node == i) q y cs x.2)));
     }
 
 -- All
 
-same_still : (w v : World) → IsSettled w → v.flights ≡ w.flights → CallsTellNoMore w v → v.requests ≡ w.requests → IsSettled v
-same_still w v due same calls requests = still w v due
+same_still : (w v : World) → IsSettled w → v.scene ≡ w.scene → v.flights ≡ w.flights → CallsTellNoMore w v → v.requests ≡ w.requests →
+    IsSettled v
+same_still w v due scene same calls requests = still w v due scene
     (λ g y at. inl (ap (λ fs. slice_get fs g) (sym same) ∙ at)) calls
     (λ f l c at. inl (ap (λ fs. slice_get fs f) (sym same) ∙ at)) requests
 
-led_still : (w v : World) (c : ℕ) (who : Caller) (l : Lead) → IsSettled w → v.flights ≡ w.flights ++ record { lead = l; stage = New } ∷ [] →
+led_still : (w v : World) (c : ℕ) (who : Caller) (l : Lead) → IsSettled w → v.scene ≡ w.scene →
+    v.flights ≡ w.flights ++ record { lead = l; stage = New } ∷ [] →
     v.calls ≡ slice_set w.calls c (record { caller = who; state = In (length w.flights) }) → v.requests ≡ w.requests → IsSettled v
-led_still w v c who l due same calls requests =
+led_still w v c who l due scene same calls requests =
     let row : Flight = record { lead = l; stage = New } in
-    still w v due
+    still w v due scene
     (λ g y at. ⊎_elim
     (λ (x : (g ≡ length w.flights) × (y ≡ row)). inr (ap (λ (z : Flight). outcome_of z.stage) x.1))
     (λ (x : slice_get w.flights g ≡ Some y). inl x)
@@ -391,29 +380,29 @@ due_by w _ _ honest some due (joined c who n f at stands is first) =
     let y = position_found (is_open_for who) w.flights f first in
     let opens = (and_parts (is_open y.0.stage) _ y.2).0 in
     let v = with_state (with_node w who.node (entered_node n who)) c who (In f) in
-    same_still w v due refl (calls_set w v c who (In f) refl (ap tells y.1 ∙ open_tells y.0.stage opens)) refl
-due_by w _ _ honest some due (led c who n m at stands is) = led_still w _ c who (lead_of who m) due refl refl refl
+    same_still w v due refl refl (calls_set w v c who (In f) refl (ap tells y.1 ∙ open_tells y.0.stage opens)) refl
+due_by w _ _ honest some due (led c who n m at stands is) = led_still w _ c who (lead_of who m) due refl refl refl refl
 due_by w _ _ honest some due (looked f l n at stands) =
     let r = again (table_at n l.key) l.key l.class l.ticket in
-    set_still w (after_look w f l n r) f l (stage_found r.0) due refl (found_tells r.0) (λ c e. absurd (found_waits r.0 c e))
+    set_still w (after_look w f l n r) f l (stage_found r.0) due refl refl (found_tells r.0) (λ c e. absurd (found_waits r.0 c e))
     (calls_same w (after_look w f l n r) refl) refl
 due_by w _ _ honest some due (asked f l n o at stands wide is) =
-    set_still w _ f l Asking due refl refl (λ c e. absurd (no_wait c e)) (λ c x h. inl h) refl
+    set_still w _ f l Asking due refl refl refl (λ c e. absurd (no_wait c e)) (λ c x h. inl h) refl
   where
     no_wait : (c : ℕ) → Asking ≡ Fallback (Some c) → ⊥
     no_wait c e = cc
 due_by w _ _ honest some due (served a q n at stands) =
-    same_still w (with_calls w (caller_serving a q ∷ [])) due refl
+    same_still w (with_calls w (caller_serving a q ∷ [])) due refl refl
     (calls_more w (with_calls w (caller_serving a q ∷ [])) (caller_serving a q ∷ []) refl) refl
 due_by w _ _ honest some due (replied c who s a o at is knows) = record { flights = due.flights; requests = due.requests }
 due_by w _ _ honest some due (taken f r l x at there) =
     let new = stage_taken l.key x.key x.outcome in
-    set_still w (with_stage w f l new) f l new due refl (taken_tells l.key x.key x.outcome)
+    set_still w (with_stage w f l new) f l new due refl refl (taken_tells l.key x.key x.outcome)
     (λ c e. absurd (taken_waits l.key x.key x.outcome c e))
     (calls_same w (with_stage w f l new) refl) refl
 due_by w _ _ honest some due (late f r l o at) = due
 due_by w _ _ honest some due (lost f l at) =
-    set_still w (with_stage w f l (Fallback None)) f l (Fallback None) due refl refl (λ c e. absurd (no_wait c e))
+    set_still w (with_stage w f l (Fallback None)) f l (Fallback None) due refl refl refl (λ c e. absurd (no_wait c e))
     (calls_same w (with_stage w f l (Fallback None)) refl) refl
   where
     no_wait : (c : ℕ) → Fallback None ≡ Fallback (Some c) → ⊥
@@ -422,25 +411,25 @@ due_by w _ _ honest some due (gone_local f l at) =
     let who : Caller = record { node = l.node; key = l.key; class = Local; purpose = ForFallback f } in
     let u = with_stage w f l (Fallback (Some (length w.calls))) in
     let v = with_calls u (who ∷ []) in
-    set_still w v f l (Fallback (Some (length w.calls))) due refl refl (λ c e. fresh_last w v who c refl e)
+    set_still w v f l (Fallback (Some (length w.calls))) due refl refl refl (λ c e. fresh_last w v who c refl e)
     (calls_more w v (who ∷ []) refl) refl
 due_by w _ _ honest some due (read f l n at stands is none) =
     let new = Ready (Ok (meaning w.scene l.key)) Main in
-    set_still w (with_stage w f l new) f l new due refl refl (λ c e. absurd (ready_waits _ _ c e))
+    set_still w (with_stage w f l new) f l new due refl refl refl (λ c e. absurd (ready_waits _ _ c e))
     (calls_same w (with_stage w f l new) refl) refl
 due_by w _ _ honest some due (split f l n ks at stands is parts) =
     let new = Parts (numbers (length w.calls) ks) in
     let whos = map (call_for l.node n (ForPart f)) ks in
     let v = with_calls (with_stage w f l new) whos in
-    set_still w v f l new due refl refl (λ c e. absurd (parts_wait _ c e)) (calls_more w v whos refl) refl
+    set_still w v f l new due refl refl refl (λ c e. absurd (parts_wait _ c e)) (calls_more w v whos refl) refl
 due_by w _ _ honest some due (merged f l cs os at is know) =
     let new = Ready (outcome_from w.scene l.key (collected os)) Main in
-    set_still w (with_stage w f l new) f l new due refl refl (λ c e. absurd (ready_waits _ _ c e))
+    set_still w (with_stage w f l new) f l new due refl refl refl (λ c e. absurd (ready_waits _ _ c e))
     (calls_same w (with_stage w f l new) refl) refl
 due_by w _ _ honest some due (failed f x l at is none) =
     let u = with_given w (record { node = l.node; name = name_of l.key; fault = x }) in
     let new = Ready (Err x) Main in
-    set_still w (with_stage u f l new) f l new due refl refl (λ c e. absurd (ready_waits _ _ c e))
+    set_still w (with_stage u f l new) f l new due refl refl refl (λ c e. absurd (ready_waits _ _ c e))
     (calls_same w (with_stage u f l new) refl) refl
 due_by w _ _ honest some due (landed f kept l n o p at stands) =
     settled_still w (with_stage (with_node w l.node (landed_node n l o p kept)) f l (Ended (Some o))) honest refl refl

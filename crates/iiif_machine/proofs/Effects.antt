@@ -8,7 +8,7 @@ use Rattle.iiif_machine.specs.Types.{Key, Picture, Resolved}
 use Rattle.iiif_machine.specs.Tables.{Outcome, Nowhere}
 use Rattle.iiif_machine.specs.Rows.{Node, Given, Purpose, Caller, CallState, Fresh, Hit, In, Gone, Call, Lead, Stage, New, Looked, Asking}
 use Rattle.iiif_machine.specs.Rows.{Fallback, Parts, Ready, Ended, Flight, RequestInfo, Progress, Waiting, Answered, Dropped, RequestRow}
-use Rattle.iiif_machine.specs.Worlds.{World, ◌>>=◌, with_calls, call_for, numbers, outcome_of, known_by, learned, all_learned, ready_with}
+use Rattle.iiif_machine.specs.Worlds.{World, ◌>>=◌, with_calls, call_for, numbers, outcome_of, known_by, learned, decided, ready_with}
 use Rattle.iiif_machine.specs.Worlds.{resumed_stage, resumed, answered_with, progressed, answered, settled}
 use Rattle.iiif_machine.specs.Steps.{Event, Want, Enter, Again, AskPeer, Serve, Take, Lose, GoLocal, Load, SourceFault, Land, Evict, Stop}
 use Rattle.iiif_machine.specs.declared.events.Event.TheVariants as event
@@ -216,7 +216,7 @@ answered_own cs w q z ds r None None h = h
 
 progressed_own : (cs : List Caller) (w : World) (q : RequestInfo) (r : ℕ) (x : Progress) → ProgressIsOwn cs r x →
     ProgressIsOwn cs r (progressed w q x)
-progressed_own cs w q r (Waiting z ds) h = answered_own cs w q z ds r (w.scene.shows q.name) (all_learned w ds) h
+progressed_own cs w q r (Waiting z ds) h = answered_own cs w q z ds r (w.scene.shows q.name) (decided w ds) h
 progressed_own cs w q r (Answered a) h = tt
 progressed_own cs w q r Dropped h = tt
 

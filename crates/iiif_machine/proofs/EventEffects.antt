@@ -13,7 +13,7 @@ use Rattle.iiif_machine.specs.Rows.{Progress}
 use Rattle.iiif_machine.specs.Rows.{Waiting, Answered, Dropped, RequestRow}
 use Rattle.iiif_machine.specs.Worlds.{World, table_at, put_table, with_node, with_stage}
 use Rattle.iiif_machine.specs.Worlds.{with_state, with_calls, with_flight, fresh, call_for, numbers}
-use Rattle.iiif_machine.specs.Worlds.{all_learned, collected, or_fault, outcome_from, resumed, answered, settled}
+use Rattle.iiif_machine.specs.Worlds.{decided, collected, or_fault, outcome_from, resumed, answered, settled}
 use Rattle.iiif_machine.specs.Steps.{Event, Want, Enter, Again, AskPeer, Serve, Take, Lose, GoLocal, Load, SourceFault, Land, Evict, Stop}
 use Rattle.iiif_machine.specs.Steps.{after_want, lead_of, stage_found, after_look}
 use Rattle.iiif_machine.specs.Steps.{caller_serving, stage_taken}
@@ -205,7 +205,7 @@ first_of_all (Ok v ∷ os) x e = first_by v os x (collected os) (first_of_all os
 
 merged_new : (w : World) (f : ℕ) (l : Lead) (cs : List ℕ) (os : List Outcome) (r : Result (List Value) ReadFault) →
     slice_get w.flights f ≡ Some (record { lead = l; stage = Parts cs }) →
-    all_learned w cs ≡ Some os → collected os ≡ r → IsMerged w f (outcome_from w.scene l.key r)
+    decided w cs ≡ Some os → collected os ≡ r → IsMerged w f (outcome_from w.scene l.key r)
 merged_new w f l cs os (Ok vs) at knows e = tt
 merged_new w f l cs os (Err x) at knows e = (l, cs, os, at, knows, first_of_all os x e)
 

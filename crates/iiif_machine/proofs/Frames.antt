@@ -10,6 +10,7 @@ use Rattle.iiif_ring.specs.Owner.{IsOwner}
 use Rattle.iiif_ring.proofs.Owners.{IsOwner-unique}
 use Rattle.iiif_machine.specs.Keys.{key_bytes}
 use Rattle.iiif_machine.specs.Plans.{resolved, items}
+use Rattle.iiif_machine.proofs.Deciding.{KnowSame, decided_same}
 use Rattle.iiif_machine.proofs.Lists.{get_map}
 use Rattle.iiif_machine.specs.Types.{Key, Picture, Request, Resolved, Refusal}
 use Rattle.iiif_machine.specs.Tables.{Wide, Local, Outcome, Place}
@@ -17,7 +18,7 @@ use Rattle.iiif_machine.specs.Rows.{Node, Purpose, ForRequest, ForPart, ForFallb
 use Rattle.iiif_machine.specs.Rows.{Lead}
 use Rattle.iiif_machine.specs.Rows.{Fallback, Parts, Ready, Ended, Flight, RequestInfo, Answer, Refused, Progress, Waiting}
 use Rattle.iiif_machine.specs.Rows.{Answered, Dropped, RequestRow}
-use Rattle.iiif_machine.specs.Worlds.{World, ◌>>=◌, owner_of, class_at, call_for, learned, all_learned, collected, answer_from}
+use Rattle.iiif_machine.specs.Worlds.{World, owner_of, class_at, call_for, decided, collected, answer_from}
 use Rattle.iiif_machine.specs.Worlds.{answered_with}
 use Rattle.iiif_machine.specs.Worlds.{progressed, answered, settled, with_calls, with_node, with_stage, with_state, with_request, numbers}
 use Rattle.iiif_machine.specs.Steps.{Event, Want, Enter, Serve, GoLocal, Load, Land}
@@ -259,19 +260,17 @@ new_answers w i name q n p (Ok x) r y a h =
     (λ (old : slice_get w.requests r ≡ Some row). inl old)
     (end_cases w.requests r row _ h)
 
-pub all_settled : (u : World) (cs : List ℕ) → all_learned (settled u) cs ≡ all_learned u cs
-all_settled u [] = refl
-all_settled u (c ∷ cs) = both (learned (settled u) c) (learned u c) (all_learned (settled u) cs) (all_learned u cs) (settled_knows u c)
-    (all_settled u cs)
-  where
-    both : (x y : Option Outcome) (xs ys : Option (List Outcome)) → x ≡ y → xs ≡ ys →
-        (x >>= (λ o. xs >>= (λ os. Some (o ∷ os)))) ≡ (y >>= (λ o. ys >>= (λ os. Some (o ∷ os))))
-    both x y xs ys e d = ap (λ z. z >>= (λ o. xs >>= (λ os. Some (o ∷ os)))) e ∙ ap (λ zs. y >>= (λ o. zs >>= (λ os. Some (o ∷ os)))) d
+knows_settled : (u : World) (cs : List ℕ) → KnowSame (settled u) u cs
+knows_settled u [] = tt
+knows_settled u (c ∷ cs) = (settled_knows u c, knows_settled u cs)
+
+pub all_settled : (u : World) (cs : List ℕ) → decided (settled u) cs ≡ decided u cs
+all_settled u cs = decided_same (settled u) u cs refl (knows_settled u cs)
 
 waited : (w u : World) (e : Event) (r : ℕ) (q : RequestInfo) (x : Resolved) (cs : List ℕ) (a : Answer) (y : Option Picture)
     (z : Option (List Outcome)) →
     u.scene ≡ w.scene → slice_get w.requests r ≡ Some (record { info = q; progress = Waiting x cs }) → w.scene.shows q.name ≡ y →
-    all_learned u cs ≡ z →
+    decided u cs ≡ z →
     answered_with u q x cs y z ≡ Answered a → Comes w e (settled u) r q a
 waited w u e r q x cs a (Some p) (Some os) same at shown know h =
     inr (inr (
@@ -291,7 +290,7 @@ waited w u e r q x cs a None None same at shown know h = absurd (waiting_answere
 progressing : (w u : World) (e : Event) (r : ℕ) (q : RequestInfo) (x : Progress) (a : Answer) → u.scene ≡ w.scene →
     slice_get w.requests r ≡ Some (record { info = q; progress = x }) → progressed u q x ≡ Answered a → Comes w e (settled u) r q a
 progressing w u e r q (Waiting x cs) a same at h =
-    waited w u e r q x cs a (u.scene.shows q.name) (all_learned u cs) same at (ap (λ s. s.shows q.name) (sym same)) refl h
+    waited w u e r q x cs a (u.scene.shows q.name) (decided u cs) same at (ap (λ s. s.shows q.name) (sym same)) refl h
 progressing w u e r q (Answered b) a same at h =
     inl (at ∙ ap (λ z. Some (record { info = q; progress = Answered z })) (answered_same b a h))
 progressing w u e r q Dropped a same at h = absurd (dropped_answered a h)

@@ -1,5 +1,6 @@
 -- What calls know is honest, and what is made of it.
-use Rattle.std.proofs.Common.{◌≡◌, ℕ, zero, suc, List, [], ◌∷◌, map, Option, Some, None, Result, Ok, Err, refl, sym, ap, subst, ◌∙◌}
+use Rattle.std.proofs.Common.{◌≡◌, ℕ, zero, suc, List, [], ◌∷◌, map, Bool, true, false, Option, Some, None, Result, Ok, Err, refl, sym, ap}
+use Rattle.std.proofs.Common.{subst, ◌∙◌, if◌then◌else◌}
 use Rattle.std.specs.Prelude.{slice_get}
 use Rattle.std.proofs.lemmas.Option.{none-some, same_Some}
 use Rattle.iiif_machine.specs.Scenes.{Scene}
@@ -10,8 +11,8 @@ use Rattle.iiif_machine.specs.Types.{Key, Value, Resolved, Picture, ReadFault}
 use Rattle.iiif_machine.specs.Tables.{Outcome}
 use Rattle.iiif_machine.specs.Rows.{Given, Caller, CallState, Fresh, Hit, In, Gone, Call, Lead, Stage, New, Looked, Asking, Fallback}
 use Rattle.iiif_machine.specs.Rows.{Parts, Ready, Ended, Flight, RequestInfo}
-use Rattle.iiif_machine.specs.Worlds.{World, ◌>>=◌, outcome_of, known_by, learned, all_learned, or_fault, collected, outcome_from}
-use Rattle.iiif_machine.specs.Worlds.{answer_from}
+use Rattle.iiif_machine.specs.Worlds.{World, ◌>>=◌, outcome_of, known_by, learned, all_learned, or_more, learned_to_fault, decided}
+use Rattle.iiif_machine.specs.Worlds.{or_fault, collected, outcome_from, answer_from}
 use Rattle.iiif_machine.specs.Sound.{Each, Facts, facts, caller_of, lead_in, IsHonest, AreOf, StageIsHonest, StateIsHonest, AnswerIsRight}
 use Rattle.iiif_machine.specs.Sound.{IsHonestWorld}
 use Rattle.iiif_machine.specs.Promises.{After}
@@ -77,25 +78,27 @@ abbrev pub AreGathered : Scene → List Given → ℕ → List ℕ → List Key 
 AreGathered s given node name ks (Ok vs) = vs ≡ map (meaning s) ks
 AreGathered s given node name ks (Err f) = (i : ℕ) × (slice_get given i ≡ Some (record { node = node; name = name; fault = f }))
 
+gathered_fault : (s : Scene) (given : List Given) (node : ℕ) (name : List ℕ) (k : Key) (ks : List Key) (f : ReadFault) →
+    name_of k ≡ name → IsHonest s given node k (Err f) → AreGathered s given node name (k ∷ ks) (Err f)
+gathered_fault s given node name k ks f named is =
+    (is.0, subst (λ n. slice_get given is.0 ≡ Some (record { node = node; name = n; fault = f })) named is.1)
+
 gathered_more : (s : Scene) (given : List Given) (node : ℕ) (name : List ℕ) (k : Key) (ks : List Key) (o : Outcome)
     (r : Result (List Value) ReadFault) →
     name_of k ≡ name → IsHonest s given node k o → AreGathered s given node name ks r →
     AreGathered s given node name (k ∷ ks) (or_fault o r)
-gathered_more s given node name k ks (Err f) r named is rest =
-    let first : AreGathered s given node name (k ∷ ks) (Err f) =
-    (is.0, subst (λ n. slice_get given is.0 ≡ Some (record { node = node; name = n; fault = f })) named is.1) in
-    first
+gathered_more s given node name k ks (Err f) r named is rest = gathered_fault s given node name k ks f named is
 gathered_more s given node name k ks (Ok v) (Err f) named is rest = rest
 gathered_more s given node name k ks (Ok v) (Ok vs) named is rest = ap (λ x. x ∷ vs) is ∙ ap (λ xs. meaning s k ∷ xs) rest
 
-pub gathered : (w : World) (node : ℕ) (name : List ℕ) (cs : List ℕ) (ks : List Key) (os : List Outcome) → IsHonestWorld w →
+gathered_all : (w : World) (node : ℕ) (name : List ℕ) (cs : List ℕ) (ks : List Key) (os : List Outcome) → IsHonestWorld w →
     AreOf (facts w).callers node cs ks → Each (λ k. name_of k ≡ name) ks → all_learned w cs ≡ Some os →
     AreGathered w.scene w.given node name ks (collected os)
-gathered w node name [] [] os h are named e =
+gathered_all w node name [] [] os h are named e =
     subst (λ xs. AreGathered w.scene w.given node name [] (collected xs)) (same_Some {A = List Outcome} [] os e) refl
-gathered w node name [] (k ∷ ks) os h are named e = absurd are
-gathered w node name (c ∷ cs) [] os h are named e = absurd are
-gathered w node name (c ∷ cs) (k ∷ ks) os h are named e =
+gathered_all w node name [] (k ∷ ks) os h are named e = absurd are
+gathered_all w node name (c ∷ cs) [] os h are named e = absurd are
+gathered_all w node name (c ∷ cs) (k ∷ ks) os h are named e =
     let first = bind_inv (learned w c) (λ o. all_learned w cs >>= (λ os. Some (o ∷ os))) os e in
     let o = first.0 in
     let rest = bind_inv (all_learned w cs) (λ xs. Some (o ∷ xs)) os first.2 in
@@ -103,9 +106,46 @@ gathered w node name (c ∷ cs) (k ∷ ks) os h are named e =
     let known : IsHonest w.scene w.given who.node who.key o = learned_honest w c who o h are.0.1 first.1 in
     let here : IsHonest w.scene w.given node k o =
     subst (λ q. IsHonest w.scene w.given node q o) are.0.3 (subst (λ n. IsHonest w.scene w.given n who.key o) are.0.2 known) in
-    let more = gathered w node name cs ks rest.0 h are.1 (λ i x at. named (suc i) x at) rest.1 in
+    let more = gathered_all w node name cs ks rest.0 h are.1 (λ i x at. named (suc i) x at) rest.1 in
     subst (λ xs. AreGathered w.scene w.given node name (k ∷ ks) (collected xs)) (same_Some (o ∷ rest.0) os rest.2)
     (gathered_more w.scene w.given node name k ks o (collected rest.0) (named 0 k refl) here more)
+
+gathered_to_fault : (w : World) (node : ℕ) (name : List ℕ) (cs : List ℕ) (ks : List Key) (os : List Outcome) → IsHonestWorld w →
+    AreOf (facts w).callers node cs ks → Each (λ k. name_of k ≡ name) ks → learned_to_fault w cs ≡ Some os →
+    AreGathered w.scene w.given node name ks (collected os)
+gathered_to_fault w node name [] [] os h are named e =
+    subst (λ xs. AreGathered w.scene w.given node name [] (collected xs)) (same_Some {A = List Outcome} [] os e) refl
+gathered_to_fault w node name [] (k ∷ ks) os h are named e = absurd are
+gathered_to_fault w node name (c ∷ cs) [] os h are named e = absurd are
+gathered_to_fault w node name (c ∷ cs) (k ∷ ks) os h are named e =
+    let first = bind_inv (learned w c) (λ o. or_more o (learned_to_fault w cs)) os e in
+    let o = first.0 in
+    let who = are.0.0 in
+    let known : IsHonest w.scene w.given who.node who.key o = learned_honest w c who o h are.0.1 first.1 in
+    let here : IsHonest w.scene w.given node k o =
+    subst (λ q. IsHonest w.scene w.given node q o) are.0.3 (subst (λ n. IsHonest w.scene w.given n who.key o) are.0.2 known) in
+    by o here first.2 (λ xs is. gathered_to_fault w node name cs ks xs h are.1 (λ i x at. named (suc i) x at) is)
+  where
+    by : (o : Outcome) → IsHonest w.scene w.given node k o → or_more o (learned_to_fault w cs) ≡ Some os →
+        ((xs : List Outcome) → learned_to_fault w cs ≡ Some xs → AreGathered w.scene w.given node name ks (collected xs)) →
+        AreGathered w.scene w.given node name (k ∷ ks) (collected os)
+    by (Err f) here is more =
+        subst (λ xs. AreGathered w.scene w.given node name (k ∷ ks) (collected xs)) (same_Some {A = List Outcome} (Err f ∷ []) os is)
+        (gathered_fault w.scene w.given node name k ks f (named 0 k refl) here)
+    by (Ok v) here is more =
+        let rest = bind_inv (learned_to_fault w cs) (λ xs. Some (Ok v ∷ xs)) os is in
+        subst (λ xs. AreGathered w.scene w.given node name (k ∷ ks) (collected xs)) (same_Some (Ok v ∷ rest.0) os rest.2)
+        (gathered_more w.scene w.given node name k ks (Ok v) (collected rest.0) (named 0 k refl) here (more rest.0 rest.1))
+
+pub gathered : (w : World) (node : ℕ) (name : List ℕ) (cs : List ℕ) (ks : List Key) (os : List Outcome) → IsHonestWorld w →
+    AreOf (facts w).callers node cs ks → Each (λ k. name_of k ≡ name) ks → decided w cs ≡ Some os →
+    AreGathered w.scene w.given node name ks (collected os)
+gathered w node name cs ks os h are named e = by w.scene.faults_early e
+  where
+    by : (b : Bool) → (if b then learned_to_fault w cs else all_learned w cs) ≡ Some os →
+        AreGathered w.scene w.given node name ks (collected os)
+    by true is = gathered_to_fault w node name cs ks os h are named is
+    by false is = gathered_all w node name cs ks os h are named is
 
 pub merged_honest : (s : Scene) (given : List Given) (node : ℕ) (k : Key) (ks : List Key) (r : Result (List Value) ReadFault) →
     derived s k (map (meaning s) ks) ≡ meaning s k → AreGathered s given node (name_of k) ks r →

@@ -7,6 +7,7 @@ pub mod Assembling
 pub mod Growth
 pub mod Changes
 pub mod Learning
+pub mod Deciding
 pub mod Settling
 pub mod Nodes
 pub mod Preserved

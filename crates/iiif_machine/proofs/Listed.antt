@@ -18,7 +18,7 @@ use Rattle.iiif_machine.specs.Tables.{emptied}
 use Rattle.iiif_machine.specs.Rows.{Node, Purpose, ForRequest, ForPart, ForFallback, ForAsk, Caller, CallState, Fresh, Hit, In, Gone, Lead}
 use Rattle.iiif_machine.specs.Rows.{Stage, New, Looked, Asking, Fallback, Parts, Ready, Ended, Flight, Reply, RequestInfo}
 use Rattle.iiif_machine.specs.Worlds.{World, ◌>>=◌, version_shown, version_at, speaker, table_at, put_table, with_node, with_stage}
-use Rattle.iiif_machine.specs.Worlds.{with_state, with_flight, with_ask, with_reply, learned, all_learned, collected, outcome_from}
+use Rattle.iiif_machine.specs.Worlds.{with_state, with_flight, with_ask, with_reply, learned, decided, collected, outcome_from}
 use Rattle.iiif_machine.specs.Worlds.{settled, resumed, resumed_stage, ready_with}
 use Rattle.iiif_machine.specs.Steps.{Event, Want, Enter, Again, AskPeer, Serve, Take, Lose, GoLocal, Load, SourceFault, Land, Evict, Stop}
 use Rattle.iiif_machine.specs.Steps.{after_want, is_open, is_open_for, lead_of, after_meeting, after_enter, stage_found, after_again}
@@ -308,7 +308,7 @@ loading_listed : (w : World) (f : ℕ) (l : Lead) (n : Node) (c : Class) (x : St
     slice_get w.flights f ≡ Some (record { lead = l; stage = x }) → After IsListed (after_load w f l n c x)
 loading_listed w f l n Local Looked h at = begun_listed w f l n (parts_of l.key) h at
 loading_listed w f l n Local (Parts cs) h at =
-    after_bind IsListed (all_learned w cs) (λ os. Some (with_stage w f l (Ready (outcome_from w.scene l.key (collected os)) _)))
+    after_bind IsListed (decided w cs) (λ os. Some (with_stage w f l (Ready (outcome_from w.scene l.key (collected os)) _)))
     (λ os _. listed_stage w _ f l (Parts cs) _ at refl refl refl h)
 loading_listed w f l n Wide x h at = tt
 loading_listed w f l n Local New h at = tt

@@ -5,13 +5,13 @@ use Rattle.std.proofs.Common.{◌∙◌}
 use Rattle.std.specs.Prelude.{slice_get, slice_set}
 use Rattle.std.proofs.lemmas.Option.{same_Some}
 use Rattle.iiif_machine.specs.Plans.{resolved}
+use Rattle.iiif_machine.proofs.Deciding.{KnowSame, decided_same}
 use Rattle.iiif_machine.proofs.Lists.{get_left, get_map}
 use Rattle.iiif_machine.specs.Types.{Key, Picture, Resolved, Refusal}
-use Rattle.iiif_machine.specs.Tables.{Outcome}
 use Rattle.iiif_machine.specs.Rows.{Node, Caller, CallState, Fresh, Hit, In, Gone, Call, Lead, Stage, New, Looked, Asking, Fallback}
 use Rattle.iiif_machine.specs.Rows.{Parts, Ready}
 use Rattle.iiif_machine.specs.Rows.{Ended, Flight, RequestInfo, Progress, Waiting, Answered, Dropped, RequestRow}
-use Rattle.iiif_machine.specs.Worlds.{World, ◌>>=◌, outcome_of, known_by, learned, all_learned, ready_with, resumed_stage, resumed}
+use Rattle.iiif_machine.specs.Worlds.{World, ◌>>=◌, outcome_of, known_by, learned, decided, ready_with, resumed_stage, resumed}
 use Rattle.iiif_machine.specs.Worlds.{answered_with}
 use Rattle.iiif_machine.specs.Worlds.{progressed, answered, settled, with_node, with_stage, with_state}
 use Rattle.iiif_machine.specs.Steps.{Event, after_want}
@@ -66,8 +66,8 @@ flight_set w i g l s t there own f x other at =
 
 -- what others know is the same
 
-module _ (i : ℕ) (w u : World) (calls : CallsKeep i w u.calls) (flights : FlightsKeep i w u.flights) (honest : IsHonestWorld w)
-    (due : IsSettled w) where
+module _ (i : ℕ) (w u : World) (scene : u.scene ≡ w.scene) (calls : CallsKeep i w u.calls) (flights : FlightsKeep i w u.flights)
+    (honest : IsHonestWorld w) (due : IsSettled w) where
   state_other : (who : Caller) (s : CallState) → ¬ (who.node ≡ i) → StateIsHonest w.scene (facts w) who s →
       known_by u.flights s ≡ known_by w.flights s
   state_other who Fresh other h = refl
@@ -86,18 +86,15 @@ module _ (i : ℕ) (w u : World) (calls : CallsKeep i w u.calls) (flights : Flig
       ∙ state_other x.0.caller x.0.state away (honest.calls c x.0 x.1).state
       ∙ sym (ap (λ (z : Option Call). z >>= (λ (call : Call). known_by w.flights call.state)) x.1)
 
-  both : (x y : Option Outcome) (xs ys : Option (List Outcome)) → x ≡ y → xs ≡ ys →
-      (x >>= (λ o. xs >>= (λ os. Some (o ∷ os)))) ≡ (y >>= (λ o. ys >>= (λ os. Some (o ∷ os))))
-  both x y xs ys e d = ap (λ z. z >>= (λ o. xs >>= (λ os. Some (o ∷ os)))) e ∙ ap (λ zs. y >>= (λ o. zs >>= (λ os. Some (o ∷ os)))) d
+  know_other : (node : ℕ) (cs : List ℕ) (ks : List Key) → ¬ (node ≡ i) → AreOf (facts w).callers node cs ks → KnowSame u w cs
+  know_other node [] [] other h = tt
+  know_other node [] (k ∷ ks) other h = tt
+  know_other node (c ∷ cs) [] other h = absurd h
+  know_other node (c ∷ cs) (k ∷ ks) other h =
+      (learned_other c h.0.0 h.0.1 (λ e. other (sym h.0.2 ∙ e)), know_other node cs ks other h.1)
 
-  all_other : (node : ℕ) (cs : List ℕ) (ks : List Key) → ¬ (node ≡ i) → AreOf (facts w).callers node cs ks →
-      all_learned u cs ≡ all_learned w cs
-  all_other node [] [] other h = refl
-  all_other node [] (k ∷ ks) other h = refl
-  all_other node (c ∷ cs) [] other h = absurd h
-  all_other node (c ∷ cs) (k ∷ ks) other h =
-      both (learned u c) (learned w c) (all_learned u cs) (all_learned w cs)
-      (learned_other c h.0.0 h.0.1 (λ e. other (sym h.0.2 ∙ e))) (all_other node cs ks other h.1)
+  all_other : (node : ℕ) (cs : List ℕ) (ks : List Key) → ¬ (node ≡ i) → AreOf (facts w).callers node cs ks → decided u cs ≡ decided w cs
+  all_other node cs ks other h = decided_same u w cs scene (know_other node cs ks other h)
 
   stage_other : (f : ℕ) (l : Lead) (s : Stage) → ¬ (l.node ≡ i) → Flies w f l s → StageIsHonest w.scene (facts w) l s →
       resumed_stage u s ≡ s
@@ -172,7 +169,7 @@ by_does i w _ _ honest due (wanted j name q n p stands shown) own =
 by_does i w _ _ honest due (found c who n x at stands is) own =
     let node = own_call w i c who Fresh at own in
     let u = with_state (with_node w who.node (entered_node n who)) c who (Hit x) in
-    settled_keep i w u (call_set w i c who Fresh (Hit x) at node) (λ f y o z. z) honest due
+    settled_keep i w u refl (call_set w i c who Fresh (Hit x) at node) (λ f y o z. z) honest due
     (node_set w i who.node (entered_node n who) node) refl
 by_does i w _ _ honest due (joined c who n f at stands is first) own =
     let node = own_call w i c who Fresh at own in
@@ -247,7 +244,7 @@ by_does i w _ _ honest due (failed f x l at is none) own = record {
 by_does i w _ _ honest due (landed f kept l n o p at stands) own =
     let node = own_lead w i f l (Ready o p) at own in
     let u = with_stage (with_node w l.node (landed_node n l o p kept)) f l (Ended (Some o)) in
-    settled_keep i w u (λ c y o z. z) (flight_set w i f l (Ready o p) (Ended (Some o)) at node) honest due
+    settled_keep i w u refl (λ c y o z. z) (flight_set w i f l (Ready o p) (Ended (Some o)) at node) honest due
     (node_set w i l.node (landed_node n l o p kept) node) refl
 by_does i w _ _ honest due (evicted j keys n stands) own = record {
   nodes = node_set w i j _ own;

@@ -13,7 +13,7 @@ use Rattle.iiif_machine.specs.Tables.{Class, Wide, Local, Table, Outcome, Entere
 use Rattle.iiif_machine.specs.Rows.{Node, Purpose, ForRequest, ForPart, ForFallback, ForAsk, Caller, CallState, Fresh, Hit, In, Gone, Lead}
 use Rattle.iiif_machine.specs.Rows.{Stage, New, Looked, Asking, Fallback, Parts, Ready, Ended, Flight, Ask, Reply, RequestInfo}
 use Rattle.iiif_machine.specs.Worlds.{World, version_shown, version_at, speaker, owner_of, table_at, put_table, with_node, with_stage}
-use Rattle.iiif_machine.specs.Worlds.{with_state, with_calls, with_flight, with_ask, with_reply, call_for, learned, all_learned, collected}
+use Rattle.iiif_machine.specs.Worlds.{with_state, with_calls, with_flight, with_ask, with_reply, call_for, learned, decided, collected}
 use Rattle.iiif_machine.specs.Worlds.{outcome_from, resumed, settled}
 use Rattle.iiif_machine.specs.Steps.{Want, Enter, Again, AskPeer, Serve, Take, Lose, GoLocal, Load, SourceFault, Land, Evict, Stop}
 use Rattle.iiif_machine.specs.Steps.{after_want, is_open, is_open_for, lead_of, after_meeting, after_enter, stage_found, after_again}
@@ -285,7 +285,7 @@ loading_stays : (w : World) (f : ℕ) (l : Lead) (n : Node) (c : Class) (x : Sta
     After (Stays w) (after_load w f l n c x)
 loading_stays w f l n Local Looked at h = begun_stays w f l n (parts_of l.key) at h
 loading_stays w f l n Local (Parts cs) at h =
-    after_bind (Stays w) (all_learned w cs) (λ os. Some (with_stage w f l (Ready (outcome_from w.scene l.key (collected os)) _)))
+    after_bind (Stays w) (decided w cs) (λ os. Some (with_stage w f l (Ready (outcome_from w.scene l.key (collected os)) _)))
     (λ os _. stage_stays w _ f l (Parts cs) _ at refl refl refl h.callers refl h)
 loading_stays w f l n Wide x at h = tt
 loading_stays w f l n Local New at h = tt

@@ -16,7 +16,7 @@ use Rattle.iiif_machine.specs.Rows.{Node, Given, Purpose, ForRequest, ForPart, F
 use Rattle.iiif_machine.specs.Rows.{Gone, Lead, Stage, New, Looked, Asking, Fallback, Parts, Ready, Ended, Ask, Reply, RequestInfo, Refused}
 use Rattle.iiif_machine.specs.Rows.{Progress, Waiting, Answered}
 use Rattle.iiif_machine.specs.Worlds.{World, version_at, table_at, put_table, with_node, with_stage, with_state, with_calls, with_flight}
-use Rattle.iiif_machine.specs.Worlds.{with_ask, with_reply, with_given, with_request, call_for, numbers, learned, all_learned, collected}
+use Rattle.iiif_machine.specs.Worlds.{with_ask, with_reply, with_given, with_request, call_for, numbers, learned, decided, collected}
 use Rattle.iiif_machine.specs.Worlds.{outcome_from}
 use Rattle.iiif_machine.specs.Steps.{after_want, is_open, is_open_for, lead_of, after_meeting, after_enter, stage_found, after_again}
 use Rattle.iiif_machine.specs.Steps.{after_ask_peer, after_reply, stage_taken, after_take, after_lose, after_go_local, after_begin}
@@ -264,7 +264,7 @@ pub loading_kept : (w : World) (f : ℕ) (l : Lead) (n : Node) (c : Class) (x : 
     slice_get w.flights f ≡ Some (record { lead = l; stage = x }) → Kept_by w (after_load w f l n c x)
 loading_kept w f l n Local Looked laws h at = begun_kept w f l n (parts_of l.key) laws h at refl
 loading_kept w f l n Local (Parts cs) laws h at =
-    after_bind (Next w) (all_learned w cs) (λ os. Some (with_stage w f l (Ready (outcome_from w.scene l.key (collected os)) Main)))
+    after_bind (Next w) (decided w cs) (λ os. Some (with_stage w f l (Ready (outcome_from w.scene l.key (collected os)) Main)))
     (λ os knows.
     let row = h.flights f _ at in
     let is = row.stage in

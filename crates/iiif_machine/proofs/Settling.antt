@@ -11,7 +11,7 @@ use Rattle.iiif_machine.specs.Tables.{Wide, Outcome}
 use Rattle.iiif_machine.specs.Rows.{Lead, Stage, New, Looked, Asking, Fallback, Parts, Ready, Ended, RequestInfo, Progress, Waiting}
 use Rattle.iiif_machine.specs.Rows.{Answered}
 use Rattle.iiif_machine.specs.Rows.{Dropped, RequestRow}
-use Rattle.iiif_machine.specs.Worlds.{World, learned, all_learned, collected, ready_with, resumed_stage, resumed, answered_with}
+use Rattle.iiif_machine.specs.Worlds.{World, learned, decided, collected, ready_with, resumed_stage, resumed, answered_with}
 use Rattle.iiif_machine.specs.Worlds.{progressed, answered, settled}
 use Rattle.iiif_machine.specs.Sound.{facts, lead_in, IsHonest, AreOf, StageIsHonest, FlightIsHonest, ProgressIsHonest, IsHonestWorld}
 use Rattle.iiif_machine.proofs.Words.{Goes}
@@ -42,7 +42,7 @@ resumed_honest w l (Ended o) h is = is
 
 answered_honest : (w : World) (q : RequestInfo) (r : Resolved) (cs : List ℕ) (x : Option Picture) (y : Option (List Outcome)) →
     SubjectLaws w.scene → IsHonestWorld w →
-    w.scene.shows q.name ≡ x → all_learned w cs ≡ y → ProgressIsHonest w.scene (facts w) q (Waiting r cs) →
+    w.scene.shows q.name ≡ x → decided w cs ≡ y → ProgressIsHonest w.scene (facts w) q (Waiting r cs) →
     ProgressIsHonest w.scene (facts w) q (answered_with w q r cs x y)
 answered_honest w q r cs (Some p) (Some os) laws h shown e is =
     let s = w.scene in
@@ -60,7 +60,7 @@ answered_honest w q r cs None None laws h shown e is = is
 progressed_honest : (w : World) (q : RequestInfo) (x : Progress) → SubjectLaws w.scene → IsHonestWorld w →
     ProgressIsHonest w.scene (facts w) q x →
     ProgressIsHonest w.scene (facts w) q (progressed w q x)
-progressed_honest w q (Waiting r cs) laws h is = answered_honest w q r cs (w.scene.shows q.name) (all_learned w cs) laws h refl refl is
+progressed_honest w q (Waiting r cs) laws h is = answered_honest w q r cs (w.scene.shows q.name) (decided w cs) laws h refl refl is
 progressed_honest w q (Answered a) laws h is = is
 progressed_honest w q Dropped laws h is = is
 

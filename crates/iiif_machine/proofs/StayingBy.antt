@@ -11,7 +11,7 @@ use Rattle.iiif_machine.specs.Types.{Picture, Resolved, Refusal}
 use Rattle.iiif_machine.specs.Tables.{Outcome}
 use Rattle.iiif_machine.specs.Rows.{Node, Caller, CallState, Fresh, Hit, In, Gone, Call, RequestInfo, Answer, Waiting, Answered}
 use Rattle.iiif_machine.specs.Rows.{Dropped, Ended}
-use Rattle.iiif_machine.specs.Worlds.{World, answered_with, all_learned, answered, settled, with_node, with_stage, with_state}
+use Rattle.iiif_machine.specs.Worlds.{World, answered_with, decided, answered, settled, with_node, with_stage, with_state}
 use Rattle.iiif_machine.specs.Steps.{Event, Want, Stop, Enter, Land, after_want, after_stop, call_stopped, request_stopped}
 use Rattle.iiif_machine.specs.Frames.{HasEntered, CallsStay, EachCallStays, RequestsStay, EachRequestStays}
 use Rattle.iiif_machine.proofs.Registers.{set_found}
@@ -86,11 +86,11 @@ settled_waits : (w u : World) (e : Event) → u.requests ≡ w.requests → Requ
 settled_waits w u e same r q x cs at =
     let row = get_map (answered u) u.requests r (record { info = q; progress = Waiting x cs }) (ap (λ qs. slice_get qs r) same ∙ at) in
     ⊎_elim
-    (λ (h : answered_with u q x cs (u.scene.shows q.name) (all_learned u cs) ≡ Waiting x cs).
+    (λ (h : answered_with u q x cs (u.scene.shows q.name) (decided u cs) ≡ Waiting x cs).
     inl (row ∙ ap (λ p. Some (record { info = q; progress = p })) h))
-    (λ (h : (a : Answer) × (answered_with u q x cs (u.scene.shows q.name) (all_learned u cs) ≡ Answered a)).
+    (λ (h : (a : Answer) × (answered_with u q x cs (u.scene.shows q.name) (decided u cs) ≡ Answered a)).
     inr (inl (h.0, row ∙ ap (λ p. Some (record { info = q; progress = p })) h.1)))
-    (seen u q x cs (u.scene.shows q.name) (all_learned u cs))
+    (seen u q x cs (u.scene.shows q.name) (decided u cs))
 
 dropped_by : (w v : World) (r : ℕ) (q : RequestInfo) (x : Resolved) (cs : List ℕ) (i : ℕ) (b : Bool) → (q.node == i) ≡ b →
     slice_get v.requests r

@@ -27,7 +27,9 @@ use Rattle.iiif_machine.specs.Worked.{FoundAgainIsCounted, HalvedIs, DeepHalvedI
 use Rattle.iiif_machine.specs.Worked.{DeepAskIsNotServed, DeepAskIsAnswered, AskIsServed, DeepIsNotWanted, SevenIsWanted, NineAreNotKept}
 use Rattle.iiif_machine.specs.Worked.{TenthIsKept, EvictedFromBoth, AnswersStayAtAStop, TwoShareAThirdFault, OwnersAreAsked}
 use Rattle.iiif_machine.specs.Worked.{ThreeAreAnswered}
-use Rattle.iiif_machine.specs.Worked.{PeerValueIsCounted, EvictionLeavesOthers}
+use Rattle.iiif_machine.specs.Worked.{PeerValueIsCounted, EvictionLeavesOthers, EarlyFaultIsAnswered, LateFaultWaits, UncertainFaultWaits}
+use Rattle.iiif_machine.specs.Worked.{FirstFaultIsCertain, EarlyAnswerStays, EarlyPartsFail, LatePartsWait, EarlyHalvedIs}
+use Rattle.iiif_machine.specs.Worked.{EarlyFirstFaultIsAnswered}
 
 abbrev everything : ℕ
 unfolding step run emptied evicted name_of rank_of key_eq is_tile meaning parts_of derived resolved items assembled owner_of version_at
@@ -192,3 +194,39 @@ eviction_leaves_others = refl
 pub evicted_from_both : EvictedFromBoth
 unfolding everything
 evicted_from_both = (refl, refl)
+
+pub early_fault_is_answered : EarlyFaultIsAnswered
+unfolding everything
+early_fault_is_answered = refl
+
+pub late_fault_waits : LateFaultWaits
+unfolding everything
+late_fault_waits = refl
+
+pub uncertain_fault_waits : UncertainFaultWaits
+unfolding everything
+uncertain_fault_waits = refl
+
+pub first_fault_is_certain : FirstFaultIsCertain
+unfolding everything
+first_fault_is_certain = refl
+
+pub early_answer_stays : EarlyAnswerStays
+unfolding everything
+early_answer_stays = refl
+
+pub early_parts_fail : EarlyPartsFail
+unfolding everything
+early_parts_fail = refl
+
+pub late_parts_wait : LatePartsWait
+unfolding everything
+late_parts_wait = refl
+
+pub early_halved_is : EarlyHalvedIs
+unfolding everything
+early_halved_is = refl
+
+pub early_first_fault_is_answered : EarlyFirstFaultIsAnswered
+unfolding everything
+early_first_fault_is_answered = refl

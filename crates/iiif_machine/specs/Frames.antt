@@ -8,7 +8,7 @@ use Rattle.iiif_machine.specs.Tables.{Class, Local, Outcome, Place, land}
 use Rattle.iiif_machine.specs.Rows.{Node, ForRequest, ForPart, ForFallback, ForAsk, Caller, CallState, Fresh, Hit, In, Gone, Call}
 use Rattle.iiif_machine.specs.Rows.{Lead, Fallback, Ready, Looked, Flight, Ask, RequestInfo, Answer, Refused, Waiting, Answered}
 use Rattle.iiif_machine.specs.Rows.{Dropped, RequestRow}
-use Rattle.iiif_machine.specs.Worlds.{World, new_world, table_at, put_table, learned, all_learned, collected, answer_from}
+use Rattle.iiif_machine.specs.Worlds.{World, new_world, table_at, put_table, learned, decided, collected, answer_from}
 use Rattle.iiif_machine.specs.Steps.{Event, Want, Enter, Again, AskPeer, Serve, Take, Lose, GoLocal, Load, SourceFault, Land, Evict, Stop}
 use Rattle.iiif_machine.specs.Steps.{step}
 use Rattle.iiif_machine.specs.declared.events.Event.TheVariants as event
@@ -119,18 +119,18 @@ RequestsStay w e v = (r : ℕ) (q : RequestInfo) (x : Resolved) (cs : List ℕ) 
 abbrev pub EachRequestStays : Type 0
 EachRequestStays = (w v : World) (e : Event) → step w e ≡ Some v → RequestsStay w e v
 
--- the request waited for calls each of which knows an outcome by now, and the answer is what these outcomes come to
+-- the request waited for calls, what they know by now decides it, and the answer is what it comes to
 abbrev pub IsCollected : World → World → ℕ → RequestInfo → Answer → Type 0
 IsCollected w v r q a = (p : Picture) × (x : Resolved) × (cs : List ℕ) × (os : List Outcome) ×
     (slice_get w.requests r ≡ Some (record { info = q; progress = Waiting x cs })) × (w.scene.shows q.name ≡ Some p) ×
-    (all_learned v cs ≡ Some os) × (a ≡ answer_from w.scene p x (collected os))
+    (decided v cs ≡ Some os) × (a ≡ answer_from w.scene p x (collected os))
 
 -- the request came with this event, and the answer refuses it
 abbrev pub IsRefusedBy : World → Event → ℕ → RequestInfo → Answer → Type 0
 IsRefusedBy w e r q a = (e ≡ Want q.node q.name q.request) × (r ≡ length w.requests) × ((x : Refusal) × (a ≡ Refused x))
 
--- An answer that stands after an event stood before it; or it refuses the event's own request; or all calls of its request know by now,
--- and it is what their outcomes come to: the image, or the first fault in the plan's order.
+-- An answer that stands after an event stood before it; or it refuses the event's own request; or what the calls of its request know by
+-- now decides it, and it is what that comes to: the image, or the first fault in the plan's order.
 abbrev pub AnswerHasOrigin : World → Event → World → Type 0
 AnswerHasOrigin w e v = (r : ℕ) (q : RequestInfo) (a : Answer) →
     slice_get v.requests r ≡ Some (record { info = q; progress = Answered a }) →
@@ -167,7 +167,7 @@ pub record IsSettled (w : World) : Type 0 where
   pub flights : (f : ℕ) (l : Lead) (c : ℕ) → slice_get w.flights f ≡ Some (record { lead = l; stage = Fallback (Some c) }) →
       learned w c ≡ None
   pub requests : (r : ℕ) (q : RequestInfo) (x : Resolved) (cs : List ℕ) →
-      slice_get w.requests r ≡ Some (record { info = q; progress = Waiting x cs }) → all_learned w cs ≡ None
+      slice_get w.requests r ≡ Some (record { info = q; progress = Waiting x cs }) → decided w cs ≡ None
 
 -- Other nodes' rows stay as they are: those nodes with their tables, and their requests, calls and flights.
 pub record OthersKeep (i : ℕ) (w v : World) : Type 0 where

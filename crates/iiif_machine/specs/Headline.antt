@@ -29,9 +29,10 @@ StaysFrom w es v = (past rest : List Event) (u : World) → es ≡ past ++ rest 
 -- A list of events, each of which was allowed, made of the world w the world v.
 --
 -- Answers: each is the image of its request, its refusal, or a fault that was given at its node by the source of its name. A refusal
--- comes with the request's own event. Any other answer comes once all calls of its request know outcomes: the image, or the first fault
--- of these in the plan's order. A request and its canonical form have one image. What was answered behind any beginning of the list
--- stays so to its end, as does what was given, what has ended, and what of a row never changes.
+-- comes with the request's own event. Any other answer comes once what the calls of its request know decides it: all know outcomes, or,
+-- where faults are early, one knows a fault and each before it a value. It is the image, or the first fault in the plan's order. A request
+-- and its canonical form have one image. What was answered behind any beginning of the list stays so to its end, as does what was given,
+-- what has ended, and what of a row never changes.
 --
 -- Values: each that is kept, known to a call or replied is the meaning of its key.
 --

@@ -1,5 +1,5 @@
 -- What calls know, but for the values.
-use Rattle.std.specs.Prelude.{List, Option, Some, None, Result, Ok, Err}
+use Rattle.std.specs.Prelude.{List, Bool, Option, Some, None, Result, Ok, Err, if◌then◌else◌}
 use Rattle.iiif_machine.specs.Types.{Value, ReadFault}
 use Rattle.iiif_machine.specs.Tables.{Outcome}
 use Rattle.iiif_machine.specs.Worlds.{collected}
@@ -20,10 +20,11 @@ abbrev pub heard_all : Option (List Outcome) → Heard
 heard_all None = code.Nothing
 heard_all (Some os) = heard_from (collected os)
 
--- what was heard first, and then of the rest: nothing where one knows nothing, else the first fault
-abbrev pub heard_first : Heard → Heard → Heard
-heard_first code.Value rest = rest
-heard_first code.Nothing rest = code.Nothing
-heard_first (code.Fault f) code.Nothing = code.Nothing
-heard_first (code.Fault f) code.Value = code.Fault f
-heard_first (code.Fault f) (code.Fault g) = code.Fault f
+-- What was heard first, and then of the rest: nothing where one knows nothing, else the first fault. Where faults are early, one counts
+-- whatever the rest knows.
+abbrev pub heard_first : Bool → Heard → Heard → Heard
+heard_first early code.Value rest = rest
+heard_first early code.Nothing rest = code.Nothing
+heard_first early (code.Fault f) code.Nothing = if early then code.Fault f else code.Nothing
+heard_first early (code.Fault f) code.Value = code.Fault f
+heard_first early (code.Fault f) (code.Fault g) = code.Fault f

@@ -4,7 +4,7 @@ use Rattle.iiif_machine.specs.Keys.{name_of}
 use Rattle.iiif_machine.specs.Types.{Value, ReadFault}
 use Rattle.iiif_machine.specs.Tables.{Outcome, Place, Nowhere, Main, Peer}
 use Rattle.iiif_machine.specs.Rows.{Given, Caller, In, Lead, Fallback, Parts, Ready, Flight}
-use Rattle.iiif_machine.specs.Worlds.{World, learned, all_learned}
+use Rattle.iiif_machine.specs.Worlds.{World, learned, decided}
 use Rattle.iiif_machine.specs.Steps.{Event, Want, Enter, Again, AskPeer, Serve, Take, Lose, GoLocal, Load, SourceFault, Land, Evict, Stop}
 use Rattle.iiif_machine.specs.Steps.{is_open, step, run}
 use Rattle.iiif_machine.specs.declared.events.Event.TheVariants as event
@@ -14,11 +14,11 @@ use Rattle.iiif_machine.specs.Sound.{facts}
 abbrev pub IsFirstFault : List Outcome → ReadFault → Type 0
 IsFirstFault os x = (vs : List Value) × (rest : List Outcome) × (os ≡ map (λ v. Ok v) vs ++ Err x ∷ rest)
 
--- the flight waits for its parts, whose calls know outcomes, and this is the first fault of these
+-- the flight waits for its parts, what their calls know decides it, and this is the first fault of it
 abbrev pub PartsFail : World → ℕ → ReadFault → Type 0
 PartsFail w f x = (l : Lead) × (cs : List ℕ) × (os : List Outcome) ×
     (slice_get w.flights f ≡ Some (record { lead = l; stage = Parts cs })) ×
-    (all_learned w cs ≡ Some os) × IsFirstFault os x
+    (decided w cs ≡ Some os) × IsFirstFault os x
 
 -- the flight waited for the local call that it made after asking in vain, and that call knows this outcome by now
 abbrev pub OwnCallKnows : World → World → ℕ → Outcome → Type 0

@@ -18,7 +18,7 @@ use Rattle.iiif_machine.specs.Tables.{Class, Wide, Local, Place, Outcome, Holds}
 use Rattle.iiif_machine.specs.Rows.{Node, Purpose, ForRequest, ForPart, ForFallback, ForAsk, Caller, Call, Fresh, In, Lead, Stage, New}
 use Rattle.iiif_machine.specs.Rows.{Looked, Asking, Fallback, Parts, Ready, Ended, Ask, Reply, RequestInfo, Answer, Refused, Image, Failed}
 use Rattle.iiif_machine.specs.Rows.{Answered, Waiting, Gone, RequestRow}
-use Rattle.iiif_machine.specs.Worlds.{World, new_world, version_shown, learned, all_learned, collected}
+use Rattle.iiif_machine.specs.Worlds.{World, new_world, version_shown, learned, all_learned, decided, collected}
 use Rattle.iiif_machine.specs.Steps.{Event, Want, Enter, Again, AskPeer, Serve, Take, Lose, GoLocal, Load, SourceFault, Land, Evict, Stop}
 use Rattle.iiif_machine.specs.Steps.{is_open, step, run}
 use Rattle.iiif_machine.specs.declared.events.Event.TheVariants as event
@@ -163,7 +163,7 @@ IsAllowed w (Take f r) = (IsAt w f Asking ⊎ ((o : Option Outcome) × IsAt w f 
 IsAllowed w (Lose f) = IsAt w f Asking
 IsAllowed w (GoLocal f) = IsAt w f (Fallback None)
 IsAllowed w (Load f) = IsOfClassAt w f Local Looked ⊎
-    ((cs : List ℕ) × IsOfClassAt w f Local (Parts cs) × ((os : List Outcome) × (all_learned w cs ≡ Some os)))
+    ((cs : List ℕ) × IsOfClassAt w f Local (Parts cs) × ((os : List Outcome) × (decided w cs ≡ Some os)))
 IsAllowed w (SourceFault f e) = (l : Lead) × (slice_get w.flights f ≡ Some (record { lead = l; stage = Looked })) × (l.class ≡ Local) ×
     (parts_of l.key ≡ None)
 IsAllowed w (Land f kept) = (o : Outcome) × (p : Place) × IsAt w f (Ready o p)
@@ -253,6 +253,23 @@ OwnerIsTheRings = (names : List (List ℕ)) (key : List ℕ) → 0 < length name
 abbrev pub FirstFaultCounts : Type 0
 FirstFaultCounts = (values : List Value) → (collected (map (λ v. Ok v) values) ≡ Ok values)
     × ((f : ReadFault) (rest : List Outcome) → collected (map (λ v. Ok v) values ++ Err f ∷ rest) ≡ Err f)
+
+-- Where faults aren't early, what decides is what all calls know.
+abbrev pub AllDecide : Type 0
+AllDecide = (w : World) (cs : List ℕ) → w.scene.faults_early ≡ false → decided w cs ≡ all_learned w cs
+
+-- Early or not, where all calls know, it comes to what they come to.
+abbrev pub EarlyIsSame : Type 0
+EarlyIsSame = (w : World) (cs : List ℕ) (os : List Outcome) → all_learned w cs ≡ Some os →
+    (ds : List Outcome) × (decided w cs ≡ Some ds) × (collected ds ≡ collected os)
+
+-- Where faults are early, a call that knows a fault decides, where each before it knows a value, whatever those behind it know; and one
+-- that knows nothing leaves it open.
+abbrev pub FirstFaultDecides : Type 0
+FirstFaultDecides = (w : World) (cs ds : List ℕ) (c : ℕ) (vs : List Value) → w.scene.faults_early ≡ true →
+    all_learned w cs ≡ Some (map (λ v. Ok v) vs) →
+    ((f : ReadFault) → learned w c ≡ Some (Err f) → decided w (cs ++ c ∷ ds) ≡ Some (map (λ v. Ok v) vs ++ Err f ∷ []))
+    × (learned w c ≡ None → decided w (cs ++ c ∷ ds) ≡ None)
 
 -- what is kept at each node
 abbrev pub caches : World → List (Cache Key Value × Cache Key Value)

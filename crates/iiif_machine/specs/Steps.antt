@@ -14,7 +14,7 @@ use Rattle.iiif_machine.specs.Rows.{Refused}
 use Rattle.iiif_machine.specs.Rows.{Progress, Waiting, Answered, Dropped, RequestRow}
 use Rattle.iiif_machine.specs.Worlds.{World, ◌>>=◌, table_at, put_table, with_node, with_stage, with_state, with_calls, with_flight}
 use Rattle.iiif_machine.specs.Worlds.{with_ask, with_reply, with_given, with_request, version_shown, version_at, speaker, owner_of}
-use Rattle.iiif_machine.specs.Worlds.{call_for, numbers, learned, all_learned, collected, outcome_from, settled}
+use Rattle.iiif_machine.specs.Worlds.{call_for, numbers, learned, decided, collected, outcome_from, settled}
 use Rattle.iiif_machine.specs.declared.events.Event.TheVariants as event
 pub use Rattle.iiif_machine.specs.declared.events.Event.{Event}
 pub use Rattle.iiif_machine.specs.declared.events.Event.TheVariants.{Want, Enter, Again, AskPeer, Serve, Take, Lose, GoLocal, Load}
@@ -123,7 +123,7 @@ after_go_local w f l (Fallback None) =
     (record { node = l.node; key = l.key; class = Local; purpose = ForFallback f } ∷ []))
 after_go_local w f l s = None
 
--- Load: a tile is read from its source; a sum asks its parts, and merges them once all its calls know.
+-- Load: a tile is read from its source; a sum asks its parts, and merges them once what its calls know decides it.
 abbrev pub after_begin : World → ℕ → Lead → Node → Option (List Key) → World
 after_begin w f l n None = with_stage w f l (Ready (Ok (meaning w.scene l.key)) Main)
 after_begin w f l n (Some ks) = with_calls (with_stage w f l (Parts (numbers (length w.calls) ks))) (map (call_for l.node n (ForPart f)) ks)
@@ -131,7 +131,7 @@ after_begin w f l n (Some ks) = with_calls (with_stage w f l (Parts (numbers (le
 abbrev pub after_load : World → ℕ → Lead → Node → Class → Stage → Option World
 after_load w f l n Local Looked = Some (after_begin w f l n (parts_of l.key))
 after_load w f l n Local (Parts cs) = do
-  os ← all_learned w cs
+  os ← decided w cs
   Some (with_stage w f l (Ready (outcome_from w.scene l.key (collected os)) Main))
 after_load w f l n c s = None
 

@@ -59,6 +59,7 @@ showing shown p edge = record {
   edge = edge;
   limits = record { max_w = 4096; max_h = 4096; upscale = false };
   room = 65536;
+  faults_early = false;
 }
 
 -- a region at a size, turned clockwise by so many degrees
@@ -405,6 +406,68 @@ two_faults = four_calls ++ Again 0 ∷ Load 0 ∷ Land 0 true ∷ Again 3 ∷ So
 
 abbrev pub FirstFaultIsAnswered : Type 0
 FirstFaultIsAnswered = answers_after graded alone two_faults ≡ Some (Some (Failed (fault_at 8)) ∷ [])
+
+-- Where faults are early, one counts as soon as it is certain.
+
+abbrev pub early : Scene → Scene
+early s = record s { faults_early = true }
+
+-- gray, 3 by 1: three tiles of one place each
+abbrev pub row : Picture
+row = record { width = 3; height = 1; channels = 1; top = 255; samples = 7 ∷ 8 ∷ 9 ∷ [] }
+
+abbrev pub three_tiles : Scene
+three_tiles = showing p_name row 1
+
+abbrev pub three_calls : List Event
+three_calls = Want 0 p_name all ∷ Enter 0 ∷ Enter 1 ∷ Enter 2 ∷ Again 0 ∷ Again 1 ∷ Again 2 ∷ []
+
+-- The first of three items is read, the second fails, and nothing comes of the third.
+abbrev pub third_is_silent : List Event
+third_is_silent = three_calls ++ Load 0 ∷ Land 0 true ∷ SourceFault 1 (fault_at 8) ∷ Land 1 true ∷ []
+
+abbrev pub EarlyFaultIsAnswered : Type 0
+EarlyFaultIsAnswered = answers_after (early three_tiles) alone third_is_silent ≡ Some (Some (Failed (fault_at 8)) ∷ [])
+
+abbrev pub LateFaultWaits : Type 0
+LateFaultWaits = answers_after three_tiles alone third_is_silent ≡ Some (None ∷ [])
+
+-- The second fails before the first is read: it isn't certain yet that its fault is the first one.
+abbrev pub first_is_silent : List Event
+first_is_silent = three_calls ++ SourceFault 1 (fault_at 8) ∷ Land 1 true ∷ []
+
+abbrev pub UncertainFaultWaits : Type 0
+UncertainFaultWaits = answers_after (early three_tiles) alone first_is_silent ≡ Some (None ∷ [])
+
+-- Then the first fails, too, and its fault is answered: the third is still silent.
+abbrev pub FirstFaultIsCertain : Type 0
+FirstFaultIsCertain = answers_after (early three_tiles) alone (first_is_silent ++ SourceFault 0 (fault_at 5) ∷ Land 0 true ∷ [])
+    ≡ Some (Some (Failed (fault_at 5)) ∷ [])
+
+-- What was answered so stays when the third comes to something.
+abbrev pub EarlyAnswerStays : Type 0
+EarlyAnswerStays = answers_after (early three_tiles) alone (third_is_silent ++ SourceFault 2 (fault_at 5) ∷ Land 2 true ∷ [])
+    ≡ Some (Some (Failed (fault_at 8)) ∷ [])
+
+-- Of a sum's four parts the first is made, the second fails, and nothing comes of the others.
+abbrev pub parts_are_silent : List Event
+parts_are_silent = Want 0 a_name halved ∷ Enter 0 ∷ Again 0 ∷ Load 0 ∷ Enter 1 ∷ Enter 2 ∷ Enter 3 ∷ Enter 4 ∷ Again 1 ∷ Load 1 ∷ Enter 5 ∷
+    Again 2 ∷ Load 2 ∷ Enter 6 ∷ Again 5 ∷ Load 5 ∷ Land 5 true ∷ Load 1 ∷ Land 1 true ∷ Again 6 ∷ SourceFault 6 (fault_at 8)
+    ∷ Land 6 true ∷ Load 2 ∷ Land 2 true ∷ []
+
+abbrev pub EarlyPartsFail : Type 0
+EarlyPartsFail = answers_after (early graded) alone (parts_are_silent ++ Load 0 ∷ Land 0 true ∷ [])
+    ≡ Some (Some (Failed (fault_at 8)) ∷ [])
+
+abbrev pub LatePartsWait : Type 0
+LatePartsWait = answers_after graded alone (parts_are_silent ++ Load 0 ∷ []) ≡ None
+
+-- Where all come to something, it is the same: an image, or the first fault.
+abbrev pub EarlyHalvedIs : Type 0
+EarlyHalvedIs = answers_after (early graded) alone sums ≡ answers_after graded alone sums
+
+abbrev pub EarlyFirstFaultIsAnswered : Type 0
+EarlyFirstFaultIsAnswered = answers_after (early graded) alone two_faults ≡ answers_after graded alone two_faults
 
 -- Ten values of a peer land at a node's table: the tenth is kept, in hot, and none before it. An eviction takes what hot keeps, of
 -- tiles and of sums.

@@ -136,6 +136,23 @@ all_learned w (c ∷ cs) = do
   os ← all_learned w cs
   Some (o ∷ os)
 
+-- What the first of some calls know: up to one that knows a fault, where each before it knows a value; or values, where all know these.
+abbrev pub or_more : Outcome → Option (List Outcome) → Option (List Outcome)
+or_more (Err f) rest = Some (Err f ∷ [])
+or_more (Ok v) rest = do
+  os ← rest
+  Some (Ok v ∷ os)
+
+abbrev pub learned_to_fault : World → List ℕ → Option (List Outcome)
+learned_to_fault w [] = Some []
+learned_to_fault w (c ∷ cs) = do
+  o ← learned w c
+  or_more o (learned_to_fault w cs)
+
+-- What decides what comes of some calls: what all of them know. Where faults are early, what they know up to the first fault does.
+abbrev pub decided : World → List ℕ → Option (List Outcome)
+decided w cs = if w.scene.faults_early then learned_to_fault w cs else all_learned w cs
+
 -- the values, or the first fault
 abbrev pub or_fault : Outcome → Result (List Value) ReadFault → Result (List Value) ReadFault
 or_fault (Err f) rest = Err f
@@ -174,7 +191,7 @@ resumed_stage w (Ended o) = Ended o
 abbrev pub resumed : World → Flight → Flight
 resumed w fl = record { lead = fl.lead; stage = resumed_stage w fl.stage }
 
--- A request all of whose calls know is answered.
+-- A request is answered once what its calls know decides it.
 abbrev pub answered_with : World → RequestInfo → Resolved → List ℕ → Option Picture → Option (List Outcome) → Progress
 answered_with w q r cs (Some p) (Some os) = Answered (answer_from w.scene p r (collected os))
 answered_with w q r cs (Some p) None = Waiting r cs
@@ -182,7 +199,7 @@ answered_with w q r cs None (Some os) = Waiting r cs
 answered_with w q r cs None None = Waiting r cs
 
 abbrev pub progressed : World → RequestInfo → Progress → Progress
-progressed w q (Waiting r cs) = answered_with w q r cs (w.scene.shows q.name) (all_learned w cs)
+progressed w q (Waiting r cs) = answered_with w q r cs (w.scene.shows q.name) (decided w cs)
 progressed w q (Answered a) = Answered a
 progressed w q Dropped = Dropped
 

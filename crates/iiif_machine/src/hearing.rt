@@ -11,7 +11,7 @@ use std::alloc::Global;
 /// The outcome that a call knows, or several calls together, without its value.
 #[derive(Clone, Copy, PartialEq, Eq)]
 pub enum Heard {
-    /// Nothing, or one of several knows nothing.
+    /// Nothing, or one of several knows nothing, and no fault before it counts yet.
     Nothing,
     /// A value, or each knows one.
     Value,
@@ -42,14 +42,20 @@ pub fn heard_of(outcome: &Result<Value, ReadFault>) -> Heard
     }
 }
 
-/// Two outcomes, one after the other, as one: the first fault counts.
-pub fn first_of(first: Heard, next: Heard) -> Heard
-    ensures { result ≡ heard_first first next }
+/// Two outcomes, one after the other, as one: the first fault counts; where faults are early, also where the next is nothing.
+pub fn first_of(early: bool, first: Heard, next: Heard) -> Heard
+    ensures { result ≡ heard_first early first next }
 {
     match (first, next) {
         (Heard::Nothing, _) => Heard::Nothing,
         (Heard::Value, next) => next,
-        (Heard::Fault(_), Heard::Nothing) => Heard::Nothing,
+        (Heard::Fault(fault), Heard::Nothing) => {
+            if early {
+                Heard::Fault(fault)
+            } else {
+                Heard::Nothing
+            }
+        }
         (Heard::Fault(fault), Heard::Value | Heard::Fault(_)) => Heard::Fault(fault),
     }
 }

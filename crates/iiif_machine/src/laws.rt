@@ -5,7 +5,7 @@ ghost use Rattle.iiif_machine.specs.KeyLaws.{PlansHaveItems, RefusedHasNoImage};
 ghost use Rattle.iiif_machine.specs.Promises.{AllowedExactly, AnswersAreRight, CanonicalFormsAgree, EachRun, EachRunFollows, EachStep};
 ghost use Rattle.iiif_machine.specs.Promises.{FirstFaultCounts, NoFaultIsTaken, NoFaultNoFailure, NoneWaitsForItself, NotKeptStays};
 ghost use Rattle.iiif_machine.specs.Promises.{OneOutcome, OnlySourcesGive, OwnerIsTheRings, RefusedAtOnce, StopTakesAll, ValuesAreMeanings};
-ghost use Rattle.iiif_machine.specs.Promises.{WaitsFall};
+ghost use Rattle.iiif_machine.specs.Promises.{AllDecide, EarlyIsSame, FirstFaultDecides, WaitsFall};
 ghost use Rattle.iiif_machine.specs.Origins.{EventsGive, FaultsHaveOrigins, FlightsBecomeReady, JoinsOpen};
 ghost use Rattle.iiif_machine.specs.Frames.{AnswersHaveOrigins, AsksOwner, CallsHaveOrigins, EachCallStays, EachKeepsOthers, EachRequestStays};
 ghost use Rattle.iiif_machine.specs.Frames.{EachStaysSettled, LandsBy, NewIsSettled};
@@ -20,6 +20,8 @@ ghost use Rattle.iiif_machine.specs.Worked.{ReplyToAStoppedFlightChangesNothing,
 ghost use Rattle.iiif_machine.specs.Worked.{TenthIsKept, TwoShareAFault, TwoShareAValue, WaitsForItsCalls};
 ghost use Rattle.iiif_machine.specs.Worked.{AnswersStayAtAStop, EvictionLeavesOthers, OwnersAreAsked, PeerValueIsCounted};
 ghost use Rattle.iiif_machine.specs.Worked.{ThreeAreAnswered, TwoShareAThirdFault};
+ghost use Rattle.iiif_machine.specs.Worked.{EarlyAnswerStays, EarlyFaultIsAnswered, EarlyFirstFaultIsAnswered, EarlyHalvedIs};
+ghost use Rattle.iiif_machine.specs.Worked.{EarlyPartsFail, FirstFaultIsCertain, LateFaultWaits, LatePartsWait, UncertainFaultWaits};
 
 /// So two keys may be compared by `key_eq`.
 pub fn keys_are_told_apart()
@@ -87,6 +89,14 @@ pub fn events_change_no_more()
     ensures known { KnowsAtItsEnd }
 {}
 
+/// What comes of parts and of items is decided by what all their calls know. With faults early the first fault decides it as soon as each
+/// call before it knows a value; where all know, it comes to the same.
+pub fn faults_may_be_early()
+    ensures all { AllDecide }
+    ensures same { EarlyIsSame }
+    ensures first { FirstFaultDecides }
+{}
+
 /// The owner that a node asks is the ring's.
 pub fn the_owner_is_asked()
     ensures { OwnerIsTheRings }
@@ -134,6 +144,15 @@ pub fn worked_lists_compute()
     ensures three_are_answered { ThreeAreAnswered }
     ensures peer_value_is_counted { PeerValueIsCounted }
     ensures eviction_leaves_others { EvictionLeavesOthers }
+    ensures early_fault_is_answered { EarlyFaultIsAnswered }
+    ensures late_fault_waits { LateFaultWaits }
+    ensures uncertain_fault_waits { UncertainFaultWaits }
+    ensures first_fault_is_certain { FirstFaultIsCertain }
+    ensures early_answer_stays { EarlyAnswerStays }
+    ensures early_parts_fail { EarlyPartsFail }
+    ensures late_parts_wait { LatePartsWait }
+    ensures early_halved_is { EarlyHalvedIs }
+    ensures early_first_fault_is_answered { EarlyFirstFaultIsAnswered }
 {}
 
 /// A flight becomes ready by an event of its own, or with what its own local call knows; so it gets a fault only where its own read

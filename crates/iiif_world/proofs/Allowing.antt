@@ -4,7 +4,7 @@ use Rattle.std.specs.Prelude.{slice_get}
 use Rattle.std.proofs.lemmas.Option.{none-some}
 use Rattle.iiif_machine.specs.Types.{Request, Picture}
 use Rattle.iiif_machine.specs.Rows.{Node}
-use Rattle.iiif_machine.specs.Worlds.{World, all_learned, speaker, version_shown}
+use Rattle.iiif_machine.specs.Worlds.{World, decided, speaker, version_shown}
 use Rattle.iiif_machine.specs.Steps.{step}
 use Rattle.iiif_machine.specs.Promises.{IsAllowed}
 use Rattle.iiif_machine.specs.declared.events.Event.{Event}
@@ -35,10 +35,10 @@ wants_memory w e (Err f) h a = λ _. allowed w e h a
 pub looked_allowed : (w : World) (f : ℕ) → IsLocalAt w f Looked → IsAllowed w (Load f)
 looked_allowed w f a = inl (a.lead, a.flight, a.own)
 
-pub merge_allowed : (w : World) (f : ℕ) (cs : List ℕ) → IsLocalAt w f (Parts cs) → code.Value ≡ heard_all (all_learned w cs) →
+pub merge_allowed : (w : World) (f : ℕ) (cs : List ℕ) → IsLocalAt w f (Parts cs) → code.Value ≡ heard_all (decided w cs) →
     IsAllowed w (Load f)
 merge_allowed w f cs a heard =
-    let k = heard_value (all_learned w cs) (sym heard) in
+    let k = heard_value (decided w cs) (sym heard) in
     inr (cs, (a.lead, a.flight, a.own), (k.0, k.2))
 
 -- a request for a picture of a version that the node speaks

@@ -13,7 +13,7 @@ use Rattle.iiif_machine.specs.Tables.{Main}
 use Rattle.iiif_machine.specs.Rows.{Node}
 use Rattle.iiif_machine.specs.Sound.{IsHonestWorld}
 use Rattle.iiif_machine.specs.Steps.{after_begin, step}
-use Rattle.iiif_machine.specs.Worlds.{World, all_learned, collected, outcome_from, call_for, fresh, numbers, with_stage}
+use Rattle.iiif_machine.specs.Worlds.{World, decided, collected, outcome_from, call_for, fresh, numbers, with_stage}
 use Rattle.iiif_machine.specs.declared.events.Event.TheVariants.{Load}
 use Rattle.iiif_machine.specs.declared.rows.Call.{Call}
 use Rattle.iiif_machine.specs.declared.rows.Lead.{Lead}
@@ -55,12 +55,12 @@ split_done w m v f ks cs ns a some hc hn hm hv =
     (Parts x)) hn))
 
 pub merge_done : (w v : World) (f : ℕ) (x : Value) (cs : List ℕ) (a : IsLocalAt w f (Parts cs)) → IsProper w.scene → IsHonestWorld w →
-    code.Value ≡ heard_all (all_learned w cs) → x ≡ meaning w.scene a.lead.key → v ≡ with_stage w f a.lead (Ready (Ok x) Main) →
+    code.Value ≡ heard_all (decided w cs) → x ≡ meaning w.scene a.lead.key → v ≡ with_stage w f a.lead (Ready (Ok x) Main) →
     step w (Load f) ≡ Some v
 merge_done w v f x cs a proper honest heard is hv =
     let s = w.scene in
     let l = a.lead in
-    let k = heard_value (all_learned w cs) (sym heard) in
+    let k = heard_value (decided w cs) (sym heard) in
     let row = honest.flights f _ a.flight in
     let parts = row.stage in
     let laws = subject_laws s proper in
@@ -75,17 +75,17 @@ merge_done w v f x cs a proper honest heard is hv =
 
 -- or have a fault
 pub fail_done : (w v : World) (f : ℕ) (e : ReadFault) (cs : List ℕ) (a : IsLocalAt w f (Parts cs)) →
-    code.Fault e ≡ heard_all (all_learned w cs) →
+    code.Fault e ≡ heard_all (decided w cs) →
     v ≡ with_stage w f a.lead (Ready (Err e) Main) → step w (Load f) ≡ Some v
 fail_done w v f e cs a heard hv =
-    let k = heard_fault (all_learned w cs) e (sym heard) in
+    let k = heard_fault (decided w cs) e (sym heard) in
     merge_is w f a.lead a.node cs k.0 a.own a.flight a.there k.1
     ∙ ap (λ (r : Result (List Value) ReadFault). Some (with_stage w f a.lead (Ready (outcome_from w.scene a.lead.key r) Main))) k.2
     ∙ ap (λ (z : World). Some z) (sym hv)
 
-pub wait_done : (w : World) (f : ℕ) (cs : List ℕ) (a : IsLocalAt w f (Parts cs)) → code.Nothing ≡ heard_all (all_learned w cs) →
+pub wait_done : (w : World) (f : ℕ) (cs : List ℕ) (a : IsLocalAt w f (Parts cs)) → code.Nothing ≡ heard_all (decided w cs) →
     step w (Load f) ≡ None
-wait_done w f cs a heard = merge_none w f a.lead a.node cs a.own a.flight a.there (heard_nothing (all_learned w cs) (sym heard))
+wait_done w f cs a heard = merge_none w f a.lead a.node cs a.own a.flight a.there (heard_nothing (decided w cs) (sym heard))
 
 -- a local flight, of the row that stands there
 abbrev pub local_at : (w : World) (f : ℕ) (x : Flight) (n : Node) (s : Stage) → slice_get w.flights f ≡ Some x →

@@ -33,7 +33,7 @@ use Rattle.iiif_machine.specs.Tables.{Outcome}
 use Rattle.iiif_machine.specs.declared.rows.RequestRow.{RequestRow}
 use Rattle.iiif_machine.specs.declared.rows.Answer.TheVariants.{Image}
 use Rattle.iiif_machine.specs.declared.rows.Progress.TheVariants.{Waiting}
-use Rattle.iiif_machine.specs.Worlds.{World, all_learned, collected, answer_from}
+use Rattle.iiif_machine.specs.Worlds.{World, decided, collected, answer_from}
 use Rattle.iiif_machine.specs.Sound.{Each, IsHonestWorld, ProgressIsHonest, facts, AreOf}
 use Rattle.iiif_machine.proofs.Learning.{gathered, AreGathered}
 use Rattle.iiif_machine.proofs.Subjects.{subject_laws}
@@ -104,7 +104,7 @@ scalable d k l r is area =
 pub record IsReady (w : World) (q : RequestRow) (r : Resolved) (cs : List ℕ) (p : Picture) : Type 0 where
   pub source : IsSource p
   pub solved : IsResolved (dim_of p) (kind_of p) w.scene.limits r
-  pub made : (os : List Outcome) (vs : List Value) → all_learned w cs ≡ Some os → collected os ≡ Ok vs →
+  pub made : (os : List Outcome) (vs : List Value) → decided w cs ≡ Some os → collected os ≡ Ok vs →
       assembled w.scene p r vs ≡ images.resolved_image p r
 
 pub values_are : (w : World) (node : ℕ) (name : List ℕ) (ks : List Key) (r : Result (List Value) ReadFault) (vs : List Value) → r ≡ Ok vs →
@@ -166,16 +166,16 @@ heard_nothing (Some os) h = absurd (none_from (collected os) h)
 -- the answer that is due
 due_by : (w : World) (q : RequestRow) (r : Resolved) (cs : List ℕ) (p : Picture) (x : Option (List Outcome)) → q.progress ≡ Waiting r cs →
     w.scene.shows q.info.name ≡ Some p →
-    all_learned w cs ≡ x → answer_due w q ≡ answer_with w r (Some p) x
+    decided w cs ≡ x → answer_due w q ≡ answer_with w r (Some p) x
 due_by w q r cs p x waits shown known =
-    ap (answer_at w q.info) waits ∙ ap (λ (y : Option Picture). answer_with w r y (all_learned w cs)) shown ∙
+    ap (answer_at w q.info) waits ∙ ap (λ (y : Option Picture). answer_with w r y (decided w cs)) shown ∙
     ap (answer_with w r (Some p)) known
 
 pub due_value : (w : World) (q : RequestRow) (r : Resolved) (cs : List ℕ) (p : Picture) (h : Heard) → IsReady w q r cs p →
     q.progress ≡ Waiting r cs →
-    w.scene.shows q.info.name ≡ Some p → h ≡ heard_all (all_learned w cs) → h ≡ code.Value →
+    w.scene.shows q.info.name ≡ Some p → h ≡ heard_all (decided w cs) → h ≡ code.Value →
     answer_due w q ≡ Some (Image (images.resolved_image p r))
 due_value w q r cs p h ready waits shown is value =
-    let v = heard_value (all_learned w cs) (sym is ∙ value) in
+    let v = heard_value (decided w cs) (sym is ∙ value) in
     due_by w q r cs p (Some v.0) waits shown v.2 ∙ ap (λ (x : Result (List Value) ReadFault). Some (answer_from w.scene p r x)) v.3
     ∙ ap (λ (x : Picture). Some (Image x)) (ready.made v.0 v.1 v.2 v.3)

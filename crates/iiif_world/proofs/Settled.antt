@@ -11,7 +11,7 @@ use Rattle.iiif_machine.specs.declared.rows.Stage.TheVariants.{New, Looked, Aski
 use Rattle.iiif_machine.specs.declared.rows.Lead.{Lead}
 use Rattle.iiif_machine.specs.declared.rows.RequestRow.{RequestRow}
 use Rattle.iiif_machine.specs.declared.rows.RequestInfo.{RequestInfo}
-use Rattle.iiif_machine.specs.Worlds.{World, learned, all_learned, ready_with, resumed, resumed_stage, answered, answered_with, progressed}
+use Rattle.iiif_machine.specs.Worlds.{World, learned, decided, ready_with, resumed, resumed_stage, answered, answered_with, progressed}
 use Rattle.iiif_machine.specs.Worlds.{settled}
 use Rattle.iiif_world.specs.Settling.{due, due_at, ready_if, answer_due, answer_at, answer_with, answered_if, joined}
 use Rattle.iiif_world.proofs.Changed.{joined_map}
@@ -47,7 +47,7 @@ answered_by w q r cs None (Some os) = refl
 answered_by w q r cs None None = refl
 
 answered_at : (w : World) (q : RequestInfo) (p : Progress) → answered_if (asked q p) (answer_at w q p) ≡ asked q (progressed w q p)
-answered_at w q (Waiting r cs) = answered_by w q r cs (w.scene.shows q.name) (all_learned w cs)
+answered_at w q (Waiting r cs) = answered_by w q r cs (w.scene.shows q.name) (decided w cs)
 answered_at w q (Answered a) = refl
 answered_at w q Dropped = refl
 

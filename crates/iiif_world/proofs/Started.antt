@@ -50,12 +50,12 @@ module _ (setups : List Setup) where
   is_new : (s : Setup) → IsNew (node_for s)
   is_new s = ((s.limit, s.room, refl), (s.limit, s.room, refl))
 
-  pub starts_sound : (items : List Item) (edge : ℕ) (limits : Limits) (room : ℕ) → Each (λ i. IsSource i.picture) items → IsEdge edge →
-      room ≤ 65536 →
-      Each (RingNames setups) setups → IsSoundWorld (new_world (scene_of items edge limits room) (map node_for setups))
+  pub starts_sound : (items : List Item) (edge : ℕ) (limits : Limits) (room : ℕ) (early : Bool) → Each (λ i. IsSource i.picture) items →
+      IsEdge edge → room ≤ 65536 →
+      Each (RingNames setups) setups → IsSoundWorld (new_world (scene_of items edge limits room early) (map node_for setups))
   unfolding run
-  starts_sound items edge limits room sources is_edge small named =
-      let s = scene_of items edge limits room in
+  starts_sound items edge limits room early sources is_edge small named =
+      let s = scene_of items edge limits room early in
       let proper : IsProper s = record { sources = λ name p h. shown_source items name p sources h; edge = is_edge; room = small } in
       let nodes = map node_for setups in
       let cards = map card_of nodes in

@@ -20,7 +20,7 @@ use Rattle.iiif_machine.specs.declared.rows.RequestRow.{RequestRow}
 use Rattle.iiif_machine.specs.declared.rows.CallState.TheVariants.{Fresh, Hit, In}
 use Rattle.iiif_machine.specs.declared.rows.Stage.TheVariants.{New, Looked, Asking, Fallback, Parts, Ready, Ended}
 use Rattle.iiif_machine.specs.Worlds.{World, ◌>>=◌, version_shown, version_at, speaker, table_at, put_table, with_node, with_stage}
-use Rattle.iiif_machine.specs.Worlds.{with_state, with_flight, with_ask, owner_of, settled, all_learned, collected, outcome_from}
+use Rattle.iiif_machine.specs.Worlds.{with_state, with_flight, with_ask, owner_of, settled, decided, collected, outcome_from}
 use Rattle.iiif_machine.specs.Steps.{is_open_for, lead_of, after_want, after_look, after_begin, after_stop, flight_stopped, call_stopped}
 use Rattle.iiif_machine.specs.Steps.{request_stopped, after_ask_peer, after_load, after_meeting, node_without, stage_found, step}
 use Rattle.iiif_machine.specs.declared.events.Event.TheVariants.{Want, Enter, Again, AskPeer, Load, Land, Stop}
@@ -99,22 +99,22 @@ begin_is w f l n own at there =
 
 pub merge_is : (w : World) (f : ℕ) (l : Lead) (n : Node) (cs : List ℕ) (os : List Outcome) → l.class ≡ Local →
     slice_get w.flights f ≡ Some (record { lead = l; stage = Parts cs }) →
-    slice_get w.nodes l.node ≡ Some n → all_learned w cs ≡ Some os →
+    slice_get w.nodes l.node ≡ Some n → decided w cs ≡ Some os →
     step w (Load f) ≡ Some (with_stage w f l (Ready (outcome_from w.scene l.key (collected os)) Main))
 unfolding step
 merge_is w f l n cs os own at there known =
     bind_by (slice_get w.flights f) _ (record { lead = l; stage = Parts cs }) at (bind_by (slice_get w.nodes l.node) _ n there
     (ap (λ (c : Class). after_load w f l n c (Parts cs)) own
-    ∙ bind_by (all_learned w cs) (λ os. Some (with_stage w f l (Ready (outcome_from w.scene l.key (collected os)) Main))) os known refl))
+    ∙ bind_by (decided w cs) (λ os. Some (with_stage w f l (Ready (outcome_from w.scene l.key (collected os)) Main))) os known refl))
 
 pub merge_none : (w : World) (f : ℕ) (l : Lead) (n : Node) (cs : List ℕ) → l.class ≡ Local →
     slice_get w.flights f ≡ Some (record { lead = l; stage = Parts cs }) →
-    slice_get w.nodes l.node ≡ Some n → all_learned w cs ≡ None → step w (Load f) ≡ None
+    slice_get w.nodes l.node ≡ Some n → decided w cs ≡ None → step w (Load f) ≡ None
 unfolding step
 merge_none w f l n cs own at there known =
     bind_by (slice_get w.flights f) _ (record { lead = l; stage = Parts cs }) at (bind_by (slice_get w.nodes l.node) _ n there
     (ap (λ (c : Class). after_load w f l n c (Parts cs)) own
-    ∙ bind_none (all_learned w cs) (λ os. Some (with_stage w f l (Ready (outcome_from w.scene l.key (collected os)) Main))) known))
+    ∙ bind_none (decided w cs) (λ os. Some (with_stage w f l (Ready (outcome_from w.scene l.key (collected os)) Main))) known))
 
 pub land_is : (w : World) (f : ℕ) (l : Lead) (n : Node) (o : Outcome) (p : Place) (kept : Bool) →
     slice_get w.flights f ≡ Some (record { lead = l; stage = Ready o p }) →

@@ -19,13 +19,14 @@ abbrev pub shown_in : List Item → Pictures
 shown_in [] name = None
 shown_in (i ∷ is) name = if bytes_eq i.name name then Some i.picture else shown_in is name
 
-abbrev pub scene_of : List Item → ℕ → Limits → ℕ → Scene
-scene_of items edge limits room = record { shows = shown_in items; edge = edge; limits = limits; room = room }
+abbrev pub scene_of : List Item → ℕ → Limits → ℕ → Bool → Scene
+scene_of items edge limits room early =
+    record { shows = shown_in items; edge = edge; limits = limits; room = room; faults_early = early }
 
 -- the world that the code's lists are
 abbrev pub world_of : Contents → World
 world_of w = record {
-  scene = scene_of w.catalogue.items w.edge w.limits w.room;
+  scene = scene_of w.catalogue.items w.edge w.limits w.room w.faults_early;
   nodes = map node_of w.nodes.items;
   given = w.given.items;
   requests = w.requests.items;

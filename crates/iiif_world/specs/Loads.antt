@@ -6,7 +6,7 @@ use Rattle.iiif_keys.specs.declared.keys.SumKey.{SumKey}
 use Rattle.iiif_tables.specs.declared.table.Class.TheVariants.{Local}
 use Rattle.iiif_machine.specs.Rows.{Node}
 use Rattle.iiif_machine.specs.Steps.{step}
-use Rattle.iiif_machine.specs.Worlds.{World, all_learned}
+use Rattle.iiif_machine.specs.Worlds.{World, decided}
 use Rattle.iiif_machine.specs.declared.events.Event.TheVariants.{Load}
 use Rattle.iiif_machine.specs.declared.rows.Lead.{Lead}
 use Rattle.iiif_machine.specs.declared.rows.Stage.{Stage}
@@ -27,4 +27,4 @@ abbrev pub IsLoading : World → ℕ → Loading → Type 0
 IsLoading w f loading.Refused = step w (Load f) ≡ None
 IsLoading w f loading.Read = (a : IsLocalAt w f Looked) × (parts_of a.lead.key ≡ None)
 IsLoading w f loading.Split = (a : IsLocalAt w f Looked) × (k : SumKey) × (a.lead.key ≡ key.Sum k)
-IsLoading w f (loading.Merge heard) = (cs : List ℕ) × IsLocalAt w f (Parts cs) × (heard ≡ heard_all (all_learned w cs))
+IsLoading w f (loading.Merge heard) = (cs : List ℕ) × IsLocalAt w f (Parts cs) × (heard ≡ heard_all (decided w cs))

@@ -10,7 +10,7 @@ use Rattle.iiif_machine.specs.declared.rows.Progress.{Progress}
 use Rattle.iiif_machine.specs.declared.rows.RequestRow.{RequestRow}
 use Rattle.iiif_machine.specs.declared.rows.Stage.TheVariants.{New, Looked, Asking, Fallback, Parts, Ready, Ended}
 use Rattle.iiif_machine.specs.declared.rows.Progress.TheVariants.{Waiting, Answered, Dropped}
-use Rattle.iiif_machine.specs.Worlds.{World, learned, all_learned, collected, answer_from}
+use Rattle.iiif_machine.specs.Worlds.{World, learned, decided, collected, answer_from}
 
 -- the outcome that a flight which asked in vain has by now
 abbrev pub due_at : World → Stage → Option Outcome
@@ -38,7 +38,7 @@ answer_with w r None (Some os) = None
 answer_with w r None None = None
 
 abbrev pub answer_at : World → RequestInfo → Progress → Option Answer
-answer_at w q (Waiting r cs) = answer_with w r (w.scene.shows q.name) (all_learned w cs)
+answer_at w q (Waiting r cs) = answer_with w r (w.scene.shows q.name) (decided w cs)
 answer_at w q (Answered a) = None
 answer_at w q Dropped = None
 

@@ -12,9 +12,9 @@ ghost use Rattle.iiif_world.specs.Code.{has_name, world_of};
 
 use iiif_canonical::Limits;
 use iiif_keys::Name;
-use iiif_machine::{Ask, Call, CallState, Caller, Flight, Given, Key, Reply, RequestRow, Stage};
 use iiif_machine::keys::name_of;
 use iiif_machine::node::Node;
+use iiif_machine::{Ask, Call, CallState, Caller, Flight, Given, Key, Reply, RequestRow, Stage};
 use iiif_pixel::{Depth, NoMemory, Raster};
 
 /// An image of the catalogue.
@@ -24,13 +24,15 @@ pub struct Item {
     pub picture: Raster,
 }
 
-/// The contents of a world: pictures and limits, nodes, the faults that sources gave, and rows. A row's number is its place.
+/// The contents of a world: pictures and limits, whether faults are early, nodes, the faults that sources gave, and rows. A row's number
+/// is its place.
 #[derive(Drop)]
 pub struct Contents {
     pub catalogue: Vec<Item>,
     pub edge: u32,
     pub limits: Limits,
     pub room: u64,
+    pub faults_early: bool,
     pub nodes: Vec<Node>,
     pub given: Vec<Given>,
     pub requests: Vec<RequestRow>,

@@ -2,14 +2,14 @@
 
 ghost use Rattle.std.specs.Prelude.{◌≡◌, Some, None, IfOk, MatchOption, OnErr};
 ghost use Rattle.iiif_machine.specs.declared.rows.CallState.{CallState};
-ghost use Rattle.iiif_machine.specs.Worlds.{all_learned, known_by, learned};
+ghost use Rattle.iiif_machine.specs.Worlds.{decided, known_by, learned};
 ghost use Rattle.iiif_world.specs.Code.{world_of};
 ghost use Rattle.iiif_machine.specs.Heard.{heard, heard_all};
 
 use crate::contents::Contents;
-use iiif_machine::{CallState, Stage, Value};
 use iiif_machine::hearing::{Heard, copied_outcome, first_of, heard_of};
 use iiif_machine::keys::copy_value;
+use iiif_machine::{CallState, Stage, Value};
 use iiif_pixel::NoMemory;
 use iiif_source::ReadFault;
 
@@ -84,13 +84,13 @@ impl Contents {
         }
     }
 
-    /// The outcome that several calls know together, without values. Of several faults it is the first.
+    /// The outcome that decides what comes of several calls, without values. Of several faults it is the first.
     pub(crate) fn gathered(&self, calls: &[usize]) -> Heard
-        ensures { result ≡ heard_all (all_learned (world_of self.now) calls.now) }
+        ensures { result ≡ heard_all (decided (world_of self.now) calls.now) }
     {
         let mut first = Heard::Value;
         for call in calls {
-            first = first_of(first, self.heard(*call));
+            first = first_of(self.faults_early, first, self.heard(*call));
         }
         first
     }

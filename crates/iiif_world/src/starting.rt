@@ -191,15 +191,17 @@ fn begun(
     edge: u32,
     limits: Limits,
     room: u64,
+    faults_early: bool,
     nodes: Vec<Node>,
 ) -> Contents
-    ensures { world_of result ≡ new_world (scene_of catalogue.items edge limits room) (map node_of nodes.items) }
+    ensures { world_of result ≡ new_world (scene_of catalogue.items edge limits room faults_early) (map node_of nodes.items) }
 {
     Contents {
         catalogue,
         edge,
         limits,
         room,
+        faults_early,
         nodes,
         given: Vec::new(alloc),
         requests: Vec::new(alloc),
@@ -211,7 +213,7 @@ fn begun(
 }
 
 impl World {
-    /// A world in which nothing has happened, of these images and nodes.
+    /// A world in which nothing has happened, of these images and nodes. Where faults are early, one counts as soon as it is certain.
     ///
     /// # Errors
     ///
@@ -222,9 +224,11 @@ impl World {
         edge: u32,
         limits: Limits,
         room: u64,
+        faults_early: bool,
         setups: Vec<Setup>,
     ) -> Result<World, SetupFault>
-        ensures new { IfOk result (λ w. world_of w ≡ new_world (scene_of catalogue.items edge limits room) (map node_for setups.items)) }
+        ensures new { IfOk result (λ w. world_of w
+            ≡ new_world (scene_of catalogue.items edge limits room faults_early) (map node_for setups.items)) }
         ensures sound { IfOk result (λ w. IsSoundWorld (world_of w)) }
         ensures named { IfOk result (λ _. Each HasNodeName setups.items) }
         ensures fault { IfErr result (IsSetupFault catalogue.items edge room setups.items) }
@@ -246,7 +250,13 @@ impl World {
         }
         match nodes_of(alloc, setups) {
             Ok(nodes) => Ok(World::from_contents(begun(
-                alloc, catalogue, edge, limits, room, nodes,
+                alloc,
+                catalogue,
+                edge,
+                limits,
+                room,
+                faults_early,
+                nodes,
             ))),
             Err(_) => Err(SetupFault::NoMemory),
         }

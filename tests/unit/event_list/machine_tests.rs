@@ -21,6 +21,7 @@ fn numbers_are_as_given(rt: HostRuntime) {
     laws::flights_are_in_order();
     laws::events_are_allowed_exactly();
     laws::events_change_no_more();
+    laws::faults_may_be_early();
     laws::the_owner_is_asked();
     laws::worked_lists_compute();
     laws::outcomes_have_origins();

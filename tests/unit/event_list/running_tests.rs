@@ -182,7 +182,7 @@ fn fault_of(alloc: Global, start: &Start) -> Option<Option<SetupFault>> {
         max_h: 4096,
         upscale: false,
     };
-    Some(World::new(alloc, items, start.edge, limits, start.room, setups).err())
+    Some(World::new(alloc, items, start.edge, limits, start.room, false, setups).err())
 }
 
 /// Whether a world begins, or has the fault that it is to have.

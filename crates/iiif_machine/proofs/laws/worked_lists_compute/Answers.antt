@@ -8,6 +8,9 @@ use Rattle.iiif_machine.proofs.WorkedLists.{reply_to_a_stopped_flight_changes_no
 use Rattle.iiif_machine.proofs.WorkedLists.{found_again_is_counted, halved_is, deep_halved_is, enlarged_is, cut_out_is}
 use Rattle.iiif_machine.proofs.WorkedLists.{first_fault_is_answered, deep_ask_is_not_served, deep_ask_is_answered, ask_is_served}
 use Rattle.iiif_machine.proofs.WorkedLists.{deep_is_not_wanted, seven_is_wanted, nine_are_not_kept, tenth_is_kept, evicted_from_both}
+use Rattle.iiif_machine.proofs.WorkedLists.{early_fault_is_answered, late_fault_waits, uncertain_fault_waits, first_fault_is_certain}
+use Rattle.iiif_machine.proofs.WorkedLists.{early_answer_stays, early_parts_fail, late_parts_wait, early_halved_is}
+use Rattle.iiif_machine.proofs.WorkedLists.{early_first_fault_is_answered}
 use Rattle.iiif_machine.proofs.laws.worked_lists_compute.Goals as goal
 
 pub returns-clause-waits_for_its_calls : goal.returns-clause-waits_for_its_calls
@@ -126,3 +129,30 @@ returns-clause-peer_value_is_counted c = peer_value_is_counted
 
 pub returns-clause-eviction_leaves_others : goal.returns-clause-eviction_leaves_others
 returns-clause-eviction_leaves_others c = eviction_leaves_others
+
+pub returns-clause-early_fault_is_answered : goal.returns-clause-early_fault_is_answered
+returns-clause-early_fault_is_answered c = early_fault_is_answered
+
+pub returns-clause-late_fault_waits : goal.returns-clause-late_fault_waits
+returns-clause-late_fault_waits c = late_fault_waits
+
+pub returns-clause-uncertain_fault_waits : goal.returns-clause-uncertain_fault_waits
+returns-clause-uncertain_fault_waits c = uncertain_fault_waits
+
+pub returns-clause-first_fault_is_certain : goal.returns-clause-first_fault_is_certain
+returns-clause-first_fault_is_certain c = first_fault_is_certain
+
+pub returns-clause-early_answer_stays : goal.returns-clause-early_answer_stays
+returns-clause-early_answer_stays c = early_answer_stays
+
+pub returns-clause-early_parts_fail : goal.returns-clause-early_parts_fail
+returns-clause-early_parts_fail c = early_parts_fail
+
+pub returns-clause-late_parts_wait : goal.returns-clause-late_parts_wait
+returns-clause-late_parts_wait c = late_parts_wait
+
+pub returns-clause-early_halved_is : goal.returns-clause-early_halved_is
+returns-clause-early_halved_is c = early_halved_is
+
+pub returns-clause-early_first_fault_is_answered : goal.returns-clause-early_first_fault_is_answered
+returns-clause-early_first_fault_is_answered c = early_first_fault_is_answered

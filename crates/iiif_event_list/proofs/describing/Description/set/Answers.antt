@@ -1,7 +1,7 @@
-use Rattle.std.proofs.Common.{codes, inl, refl}
+use Rattle.std.proofs.Common.{codes, Bool, inl, refl, ap}
 use Rattle.std.proofs.lemmas.Result.{err_from_is_err_and}
 use Rattle.iiif_event_list.specs.Code.{HasWord}
-use Rattle.iiif_event_list.specs.Settings.{edge, limits, node, picture, room}
+use Rattle.iiif_event_list.specs.Settings.{settings_of, edge, faults, limits, node, picture, room}
 use Rattle.iiif_event_list.proofs.Bad.{bad_is, bad_on, first_is, wordless}
 use Rattle.iiif_event_list.proofs.describing.Description.set.Goals as goal
 
@@ -14,6 +14,12 @@ pub returns-in_ok-self-in-room-clause-yes : goal.returns-in_ok-self-in-room-clau
 returns-in_ok-self-in-room-clause-yes c = λ set.
     room (first_is c.args.words.now c.in_ok-word.field-0.now (codes "room") c.in_ok-word.ensures.read c.in-room.is)
     c.in_ok-self-in-room.ensures.0 c.in_ok-self-in-room.field-0 c.in_ok-self-in-room.ensures.1 refl
+
+pub returns-in_ok-self-in-faults-clause-yes : goal.returns-in_ok-self-in-faults-clause-yes
+returns-in_ok-self-in-faults-clause-yes c = λ set.
+    faults (first_is c.args.words.now c.in_ok-word.field-0.now (codes "faults") c.in_ok-word.ensures.read c.in-faults.is)
+    c.in_ok-self-in-faults.ensures.0 c.in_ok-self-in-faults.ensures.1
+    (ap (λ (b : Bool). record (settings_of c.args.self.now) { faults_early = b }) c.in_ok-self-in-faults.ensures.2)
 
 pub returns-in_ok-self-in-limits-clause-yes : goal.returns-in_ok-self-in-limits-clause-yes
 returns-in_ok-self-in-limits-clause-yes c = λ set.

@@ -1,6 +1,6 @@
 use Rattle.std.proofs.Common.{Some, sym, ap, ◌∙◌}
 use Rattle.iiif_pixel.specs.Picture.{Picture}
-use Rattle.iiif_machine.specs.Worlds.{all_learned}
+use Rattle.iiif_machine.specs.Worlds.{decided}
 use Rattle.iiif_machine.specs.declared.rows.Answer.TheVariants.{Image}
 use Rattle.iiif_world.specs.Code.{world_of}
 use Rattle.iiif_machine.specs.Heard.{heard_all}
@@ -35,4 +35,4 @@ returns-in_ok-image-in-Value c =
     ap (λ (x : Picture). Some (Image x)) c.in_ok-image-in-Value.ensures
     ∙ sym (due_value w c.args.wanted.now c.in-Waiting.resolved c.in-Waiting.calls c.in-Some.picture.now c.gathered.result r c.in-Waiting.is
     c.in-Some.ensures
-    (c.gathered.ensures ∙ ap (λ cs. heard_all (all_learned w cs)) c.items.ensures) c.in-Value.is)
+    (c.gathered.ensures ∙ ap (λ cs. heard_all (decided w cs)) c.items.ensures) c.in-Value.is)

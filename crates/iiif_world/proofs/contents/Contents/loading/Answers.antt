@@ -1,7 +1,7 @@
 use Rattle.std.proofs.Common.{◌≡◌, Some, ap, ◌∙◌}
 use Rattle.std.specs.Prelude.{slice_get}
 use Rattle.iiif_machine.specs.Keys.{parts_of}
-use Rattle.iiif_machine.specs.Worlds.{all_learned}
+use Rattle.iiif_machine.specs.Worlds.{decided}
 use Rattle.iiif_machine.specs.declared.rows.Stage.TheVariants.{Looked, Parts}
 use Rattle.iiif_machine.specs.Nodes.{node_of}
 use Rattle.iiif_world.specs.Code.{world_of}
@@ -37,7 +37,7 @@ returns-in-Parts-default c =
       c.in-Parts-default.calls,
       local_at w c.args.flight c.in-Some.row.now (node_of c.in-Some-node_at._node.now) (Parts c.in-Parts-default.calls) at
           c.in-Some-node_at.ensures c.in-Local.is c.in-Parts-default.is-0,
-      c.gathered.ensures ∙ ap (λ cs. heard_all (all_learned w cs)) c.items.ensures,
+      c.gathered.ensures ∙ ap (λ cs. heard_all (decided w cs)) c.items.ensures,
     )
 
 pub returns-in_default-2 : goal.returns-in_default-2

@@ -11,13 +11,13 @@ use Rattle.iiif_world.proofs.world.World.new.Goals as goal
 
 pub from_contents-requires : goal.from_contents-requires
 from_contents-requires c =
-    let s = scene_of c.args.catalogue.items c.args.edge c.args.limits c.args.room in
+    let s = scene_of c.args.catalogue.items c.args.edge c.args.limits c.args.room c.args.faults_early in
     let sources = subst (Each (λ (i : Item). IsSource i.picture)) c.deref.ensures.value
     (c.are_sources.ensures.yes c.if-not-are_sources.false) in
     let rings = subst (λ (xs : List Setup). Each (λ (x : Setup). (0 < length x.ring) × Each (IsNamed xs) x.ring) xs) c.deref-2.ensures.value
     (c.rings_name_nodes.ensures.yes c.if-not-rings_name_nodes.false) in
     subst IsSoundWorld (sym (c.begun.ensures ∙ ap (new_world s) c.in-Ok.ensures))
-    (starts_sound c.args.setups.items c.args.catalogue.items c.args.edge c.args.limits c.args.room sources
+    (starts_sound c.args.setups.items c.args.catalogue.items c.args.edge c.args.limits c.args.room c.args.faults_early sources
     (record { some = omega arith; within = omega arith }) (omega arith) rings)
 
 pub returns-then-not-are_sources-clause-fault : goal.returns-then-not-are_sources-clause-fault
