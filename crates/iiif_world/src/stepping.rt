@@ -34,8 +34,12 @@ fn answer_in(progress: &Progress) -> Result<Option<Answer>, NoMemory>
 }
 
 impl Contents {
-    /// Does an event.
-    fn happen(&mut self, event: &Event) -> Result<(), WorldFault>
+    /// Does an event to contents that are sound. `World::step` does it to its own.
+    ///
+    /// # Errors
+    ///
+    /// Those of `World::step`. The contents are as they were.
+    pub fn happen(&mut self, event: &Event) -> Result<(), WorldFault>
         requires sound { IsSoundWorld (world_of self.old) }
         ensures ok { OnOk result (step (world_of self.old) event.now ≡ Some (world_of self.new)) }
         ensures not_now { IfErr result (λ f. f ≡ WorldFault.NotNow → step (world_of self.old) event.now ≡ None) }
