@@ -14,6 +14,7 @@ import urllib.request
 
 PORT = 18080
 WANTED = ("usr/bin/iiif_serve", "usr/share/man/man1/iiif_serve.1.gz", "usr/share/iiif-serve/viewers/leaflet.html",
+          "usr/share/iiif-serve/manifest.py",
           "usr/share/doc/iiif-serve/OPERATING.md.gz", "usr/share/doc/iiif-serve/examples/nginx.conf", "etc/default/iiif-serve")
 
 
