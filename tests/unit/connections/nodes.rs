@@ -211,7 +211,7 @@ where
 {
     let watcher = stage.watcher;
     let blanks = (tiles, sums);
-    let node = among::<R, J>(alloc, config, catalogue, watcher, room()?, blanks).ok()?;
+    let node = among::<R, R, J>(alloc, config, catalogue, watcher, room()?, blanks).ok()?;
     serve_by(rt, alloc, &node, times, stage)
 }
 
