@@ -61,7 +61,7 @@ impl Layout {
 
     /// Reads a rectangle of the image, which lies in it, from the source that the layout was opened from. Black is 0 in the raster, also
     /// where white is 0 in the file, and a bit of a bilevel image is 0 or 255. The raster is right as long as the source keeps its bytes; a
-    /// source that has become shorter gives a fault.
+    /// source that has become shorter gives a fault. A rectangle without rows or columns gives a raster without samples.
     ///
     /// It reads the bytes that the rectangle needs and no others, by one call of [`Source::read_runs`] for each tile, or for all strips
     /// that stand one after another in the file. The first fault of the source ends it, and no read is made again. (Which reads are made is
@@ -86,8 +86,11 @@ impl Layout {
 }
 
 /// Opens a file: reads its first directory, and checks in this order the sides, the samples, the grid of strips or tiles, and each strip or
-/// tile. The first check that fails is the fault; a file that passes all of them has a layout. A fault of the source, or want of memory,
-/// ends it too. It reads no sample, and holds at most twelve bytes for each strip or tile meanwhile, beside the directory.
+/// tile. Of the samples it checks SamplesPerPixel, BitsPerSample, Compression, PhotometricInterpretation, FillOrder, Orientation,
+/// PlanarConfiguration, ExtraSamples and SampleFormat, in this order. The first check that fails is the fault; a file that passes all of
+/// them has a layout. A fault of the source, or want of memory, ends it too. Where the offsets or byte counts are more than the strips or
+/// tiles, the first of them are read. It reads no sample, and holds at most twelve bytes for each strip or tile meanwhile, beside the
+/// directory.
 #[tactic(auto, unfolding(iiif_tiff::specs::Tiff::refusal_of, iiif_tiff::specs::Tiff::samples, iiif_tiff::specs::Tiff::photometric))]
 pub fn open<R, S: Source<R>>(rt: &R, alloc: Global, source: &S) -> Result<Layout, OpenFault>
     ensures checks { Answers (S.keeps source.now) (S.gave source.now) (refusal_of (S.bytes source.now))
