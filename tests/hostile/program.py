@@ -48,7 +48,7 @@ def caches_of(args):
 
 
 class Refused(Exception):
-    """The program ended before it listened: its status and its line."""
+    """The program ended before it listened: its status and its lines."""
 
 
 class Server:
@@ -57,7 +57,7 @@ class Server:
     def __init__(self, program, images, options=(), env=None, ready=None):
         self.port = free_port()
         words = [program, "--base", BASE, "--listen", f"127.0.0.1:{self.port}", *map(str, options), *images]
-        # The program writes a line at most; a file holds it, so that nothing waits for a reader.
+        # The program writes two lines at most; a file holds them, so that nothing waits for a reader.
         self.said = tempfile.TemporaryFile()
         self.process = subprocess.Popen(words, stdin=subprocess.DEVNULL, stdout=self.said, stderr=self.said, env=env)
         for _ in range(4000):
@@ -155,7 +155,7 @@ def started(make, tries=5):
         try:
             return make()
         except Refused as refused:
-            if refused.args[1] != "run: listen" or not left:
+            if not refused.args[1].startswith("run: listen") or not left:
                 raise
 
 
