@@ -11,16 +11,16 @@ GDAL by `-r average`, which gives bits of bits): how far their samples are from 
 by every program in turn, --rounds times (libvips three times), and the medians are printed: wall clock and processor time of all threads. A
 job that keeps its size, or whose larger result is 1,024 wide at most, is so short that the program, the build before and the plain program
 do it ten times a round. An overview of 100 megapixels is made by one worker and by four, too, each also with the settings of ALONE, which
-docs/OPERATING.md has for a single large image; and an overview from strips with tiles of 1,024. The peak of the resident memory is taken in
+docs/operate/OPERATING.md has for a single large image; and an overview from strips with tiles of 1,024. The peak of the resident memory is taken in
 seven runs of its own (of the others three). With --before, another build of the program runs beside it, on the jobs of 8 bits and of bits
 that aren't scaled up. Right before each program, whichever it is, --warm MiB of memory are touched and given back (`touch`). No program has
 an environment of its own, but the column "this program, tuned": it has the one that the manual has for one large image. With --tuned all
 columns of this program, and the build before, have it, and that column is left out. With --reads, `strace` counts the reads of the source
 that a job takes, in a run of its own. With --results what is printed becomes a new file of bench/results, from which tools/tables makes the
-table of docs/PERFORMANCE.md.
+table of docs/operate/PERFORMANCE.md.
 
 The status is 1 where an answer of the program differs or a program fails, and with --strict also where a limit is passed. Memory: what
-docs/OPERATING.md says, which is the caches and a band (`memory.py`), with the program's defaults, with no cache, with a small one and a
+docs/operate/OPERATING.md says, which is the caches and a band (`memory.py`), with the program's defaults, with no cache, with a small one and a
 single worker, and with four workers. Wall clock: an overview of 100 megapixels from tiles 1.15 of the build before by one worker, and 0.6 by
 four, by the defaults and with the settings of ALONE; from strips GDAL's average, by two; on 16 bits 1.5 of plain Rust's and 1.0 of GDAL's
 average, by the defaults, which are two workers, where the others have one thread. Processor time: 1.5 of plain Rust's where a result is above its region. The other ratios of processor time are printed and not judged.

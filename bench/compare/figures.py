@@ -1,4 +1,4 @@
-"""All figures of docs/PERFORMANCE.md in one run, before and after.
+"""All figures of docs/operate/PERFORMANCE.md in one run, before and after.
 
     /usr/bin/python3 bench/compare/figures.py --before FOLDER [--rounds 7] [--jobs ..] > figures.md
 
@@ -9,7 +9,7 @@ samples of 16 bits; the medians are printed. At last come the whole answers of c
 
 The status is 1 where a check sum differs between two programs, where an answer is wrong, and where a limit is passed: on 8 bits 1.05 of the
 build before, on 16 bits and of what is scaled up and finished 1.5 of plain Rust; the tables' rows of 0.1 ms and less are not judged.
-compare.py says its own limits, and docs/PERFORMANCE.md which limits have the cache and the flights.
+compare.py says its own limits, and docs/operate/PERFORMANCE.md which limits have the cache and the flights.
 """
 import argparse
 import contextlib

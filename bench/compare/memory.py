@@ -1,4 +1,4 @@
-"""What one request can take, by docs/OPERATING.md: the caches, and the band that is made."""
+"""What one request can take, by docs/operate/OPERATING.md: the caches, and the band that is made."""
 MIB = 2 ** 20
 
 # An entry of a cache beside its value: its key's bytes and name, its place in a table and in a list, two counted boxes.

@@ -4,7 +4,7 @@
 
 The gray file of 10,000 square in tiles of compare.py, 1,024 wide, by the program before and by this one with one worker, two and four. From
 the command line each without an environment and in the one that the manual has for one large image, and there this one also with no caches and one band
-of all rows, as docs/OPERATING.md has it: the program before keeps nothing, either. As a server each as its own package starts it, which is
+of all rows, as docs/operate/OPERATING.md has it: the program before keeps nothing, either. As a server each as its own package starts it, which is
 without an environment for the one before, and for this one in the unit's and with the memory touched that the package's options say. A server
 is started anew for each answer, so its caches are empty, and the clock runs from the request until the last byte. All run alternating, each round
 begun with another. Each answer of this program is compared with the exact averages. Right before each run, whichever it is, --warm MiB are touched and given back: a

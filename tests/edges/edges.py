@@ -7,7 +7,7 @@ Needs `cc`: `fail.c` is built and loaded in front of the C library, and fails th
 on, until a run meets none. Then the start has to be refused, the answer has to be `L1 source`, or it is cut, the status 1 and the line
 `run: source`. So it is where one read alone fails of a file of whole tiles, for an image and an overview, whatever the bands and the
 workers: it isn't tried again. `interrupt.c` interrupts every second read of a socket and write to one or to an output: such a call is tried
-again, and nothing comes to anything else. What must be said stands here, in the words of the manual page and docs/OPERATING.md. Prints how
+again, and nothing comes to anything else. What must be said stands here, in the words of the manual page and docs/operate/OPERATING.md. Prints how
 many runs there were; each that was wrong is named on standard error, and then the status is 1.
 """
 import argparse

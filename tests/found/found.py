@@ -9,7 +9,7 @@ or libvips where a sample has 16 bits, decodes each accepted file too. An accept
 a scaled image and for bits, and each answer is compared with the known samples, cut, averaged and packed by numpy over whole numbers.
 Each file is asked for twice, read from the disk and held in memory (--hold), and both runs must end alike.
 A refused file must end the program with status 2, nothing on standard output and the line `image a: N` first on standard error. What must be
-refused, and by which number, stands in the tables below, by the reading rules of docs/OPERATING.md. Prints Markdown tables of what was
+refused, and by which number, stands in the tables below, by the reading rules of docs/operate/OPERATING.md. Prints Markdown tables of what was
 right (all files by writer, and those of 16 bits by how their samples stand in them), names on standard error what wasn't, and ends
 with status 1 where there is any.
 """

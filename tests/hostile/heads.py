@@ -1,4 +1,4 @@
-"""What a connection's input is answered, by the grammar of request heads (RFC 9112) and the limits of docs/CONFORMANCE.md.
+"""What a connection's input is answered, by the grammar of request heads (RFC 9112) and the limits of docs/operate/CONFORMANCE.md.
 
 `outputs` gives the outputs that are allowed for a whole input behind which nothing comes: one, but where the input ends inside a request
 target that is no UTF-8 text already, which may be answered `Q1 head` or by closing.

@@ -189,7 +189,7 @@ def sent_to(port, pieces, timeout=20):
 
 
 def left_behind(args, server, before, files, found):
-    """What a server says or keeps after a run, noted where it disagrees with docs/OPERATING.md: that it ended, memory above the bound since
+    """What a server says or keeps after a run, noted where it disagrees with docs/operate/OPERATING.md: that it ended, memory above the bound since
     `before`, open files above `files`. Gives how far its memory grew, and nothing where it ended."""
     if not server.alive():
         found.append(f"the server ended: {server.process.returncode}, {server.line()}")
@@ -207,7 +207,7 @@ def grown_by(grown):
 
 
 def memory_bound(channels, limit, edge, pieces, deep=False, longer_side=None):
-    """The bytes that one request can take, by docs/OPERATING.md, with 4 for each strip or tile of the files, a connection's buffer, and what is
+    """The bytes that one request can take, by docs/operate/OPERATING.md, with 4 for each strip or tile of the files, a connection's buffer, and what is
     read ahead of files: 32 MiB, and 1 for each of two workers."""
     per = 10 if deep else 9
     across = limit // edge + 2

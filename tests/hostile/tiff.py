@@ -1,4 +1,4 @@
-"""What a file's bytes say by TIFF 6.0 and the reading rules of docs/OPERATING.md: the first check that fails, or the picture shown.
+"""What a file's bytes say by TIFF 6.0 and the reading rules of docs/operate/OPERATING.md: the first check that fails, or the picture shown.
 
 Nothing here knows of the program: each rule is written out anew from the standard, in the order in which docs/generated/DEFINITIONS.md lists the
 checks. `judge` answers a `Refusal` or a `Picture`.

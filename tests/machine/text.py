@@ -2,7 +2,7 @@
 
     /usr/bin/python3 tests/machine/text.py --go-on < crates/iiif_replay/stdin
 
-The words of each line are those of docs/MACHINE.md, Replaying a list. A line that is no setting and no event ends it with status 2; and an
+The words of each line are those of docs/theorem/MACHINE.md, Replaying a list. A line that is no setting and no event ends it with status 2; and an
 event that isn't allowed with status 3, where it isn't told to go on.
 """
 import sys

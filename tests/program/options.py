@@ -1,6 +1,6 @@
 """Cases of options of a server that listens, each with the option and without it, or with two of its values.
 
-The outcomes that are wanted are those of the manual page and docs/OPERATING.md; images are those of the evaluation in tests/hostile.
+The outcomes that are wanted are those of the manual page and docs/operate/OPERATING.md; images are those of the evaluation in tests/hostile.
 """
 import os
 import re

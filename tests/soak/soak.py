@@ -10,7 +10,7 @@ before its first answer is counted as turned away, and tried again.
 
 Prints how many answers there were, the honest viewers' latency (median, 99 in 100, the longest), what became of the others, and resident
 memory and open files before, with full caches, at the greatest and afterwards. The status is 1 where an answer was wrong, the server ended,
-open files stayed, or more memory stayed than docs/OPERATING.md, Sizing, has of a program that nobody asks: that is of
+open files stayed, or more memory stayed than docs/operate/OPERATING.md, Sizing, has of a program that nobody asks: that is of
 GLIBC_TUNABLES=glibc.malloc.hugetlb=1:glibc.malloc.arena_max=1:glibc.malloc.mmap_threshold=8388608:glibc.malloc.trim_threshold=134217728 in the
 environment, as the package's unit sets it.
 """
@@ -215,7 +215,7 @@ def option(args, name, default):
 
 
 def stays_at_most(args, picture):
-    """The bytes that may be resident where nobody asks, by docs/OPERATING.md, Sizing: the caches and their entries, what was read ahead, what
+    """The bytes that may be resident where nobody asks, by docs/operate/OPERATING.md, Sizing: the caches and their entries, what was read ahead, what
     the C library keeps of what the workers gave back, the program, and its list of the picture's tiles."""
     caches, workers = option(args, "--cache-bytes", 2 ** 26), option(args, "--workers", 2)
     return 2 * caches + 512 * 16_384 + (24 + 8 * workers + 4) * 2 ** 20 + 4 * picture.across ** 2

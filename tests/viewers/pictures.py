@@ -89,7 +89,7 @@ def tiles(width, height, edge, factor):
 
 
 def factors(width, height, edge):
-    """The scale factors of docs/CONFORMANCE.md: powers of two until one tile covers the image."""
+    """The scale factors of docs/operate/CONFORMANCE.md: powers of two until one tile covers the image."""
     found = [1]
     while edge * found[-1] < max(width, height):
         found.append(2 * found[-1])

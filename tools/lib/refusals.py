@@ -4,7 +4,7 @@ An edit counts where all of these hold:
 - it is in code, and in no definition or proof;
 - it stands in a function that a program of this tree calls;
 - what the prover couldn't have is a goal of what a public function of the crate `ensures`, or two values in such a goal that differ.
-That it makes the body that it is named for is a person's claim, and stands in docs/WRONG_BODIES.md.
+That it makes the body that it is named for is a person's claim, and stands in docs/theorem/WRONG_BODIES.md.
 
 Which functions are called is read from the code that `rt ci` compiled of each library: crates/NAME/out/rlib/NAME.rlib/toolchain/mir.json.
 """
@@ -16,7 +16,7 @@ from dataclasses import dataclass
 import tree
 from tree import TOP
 
-PAGE = TOP / "docs" / "WRONG_BODIES.md"
+PAGE = TOP / "docs" / "theorem" / "WRONG_BODIES.md"
 LINE = re.compile(r"(?:rt: )?must-fail (\S+?)\.edit: (.*)")
 # What a line says besides a goal, and what it then is.
 UNFIT = [
@@ -462,4 +462,4 @@ def contradicted(verdicts):
     for it in verdicts:
         claim = said.get(it.edit)
         if claim and (claim.said == "counts") != (it.why is None):
-            yield f"{it.edit}: docs/WRONG_BODIES.md says that it {claim.said}, under {claim.body!r}: {it}"
+            yield f"{it.edit}: docs/theorem/WRONG_BODIES.md says that it {claim.said}, under {claim.body!r}: {it}"

@@ -7,7 +7,7 @@
 //! - `iiif_serve --base URL --check [OPTION].. NAME=FILE..` says of each image what it is and ends.
 //! - With no words at all it writes the image of a built-in picture, 4 by 4 samples, as hexadecimal digits.
 //!
-//! The manual page (`packaging/iiif_serve.1`) has all options, `docs/OPERATING.md` what an operator needs besides.
+//! The manual page (`packaging/iiif_serve.1`) has all options, `docs/operate/OPERATING.md` what an operator needs besides.
 //!
 //! # Exit status
 //!
@@ -47,8 +47,8 @@
 //! `answer_alone` in `iiif_program`, which answers `--one`, and of `Viewers::serve_over` in `iiif_connections`, which answers a connection.
 //! Their sources are then the bytes that one read of each file gave at the start. Of a file that is read when it is asked for, it is proved
 //! for each runtime whose files keep their bytes; that the system is one can't be proved. Of other nodes it is assumed that they are
-//! honest. `docs/PROMISES.md` names the clauses. Of `main` itself: that it ends, or serves on, without a fault of memory, and that its
-//! status is one of the three.
+//! honest. `docs/theorem/PROMISES.md` names the clauses. Of `main` itself: that it ends, or serves on, without a fault of memory, and
+//! that its status is one of the three.
 #![tactic(auto)]
 
 use iiif_program::program::program;
