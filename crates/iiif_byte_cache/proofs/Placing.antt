@@ -44,12 +44,12 @@ not_there false h = refl
 pub test_is : (a b c d h r : Bool) → a ≡ b → c ≡ d → (not a && (h || c)) ≡ r → (not b && (h || d)) ≡ r
 test_is a b c d h r p q is = cc
 
--- what goes to hot isn't in main
+-- an entry that goes to hot isn't in main
 pub main_absent : (a b h c : Bool) → a ≡ b → (not a && (h || c)) ≡ true → b ≡ false
 main_absent true b h c p t = cc
 main_absent false b h c p t = sym p
 
--- what goes to main, and isn't there, isn't in hot
+-- an entry that goes to main, and isn't there, isn't in hot
 pub hot_absent : (a b c d h : Bool) → a ≡ b → c ≡ d → (not a && (h || c)) ≡ false → b ≡ false → d ≡ false
 hot_absent true b c d h p q t n = cc
 hot_absent false b c d true p q t n = cc

@@ -96,7 +96,7 @@ module _ {K X Y : Type 0} (f : X → Y) (test : K → Bool) where
   pub is_some-turned : (es : List (K × X)) → is_some (lookup test (map (λ e. (e.0, f e.1)) es)) ≡ is_some (lookup test es)
   is_some-turned es = ap is_some (lookup-turned es) ∙ same_is_some (lookup test es)
 
--- what is lent of an entry
+-- the part of an entry that is lent
 pub lent : {X Y : Type 0} (f : X → Y) (o : Option (Bor X)) → option_map (λ s. f s.now) o ≡ option_map f (option_copied o)
 lent f None = refl
 lent f (Some x) = refl

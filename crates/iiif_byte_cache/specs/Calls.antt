@@ -45,7 +45,7 @@ module _ {K J L V : Type 0} {a : cache_key.Ghosts K V} {b : partial_eq.Ghosts K}
   abbrev pub keeps : ByteCache K J L V a b c d → K → Bool
   keeps cache key = is_some (kept_in cache key)
 
-  -- what is kept for a key, lent
+  -- an entry that is lent for a key: the one that is kept for it
   abbrev pub LendsKept : ByteCache K J L V a b c d → K → Option (Bor (Entry K J L V a b c d)) → Type 0
   LendsKept cache key lent = option_map (λ e. kept_of e.now) lent ≡ kept_in cache key
 
@@ -71,7 +71,7 @@ module _ {K J L V : Type 0} {a : cache_key.Ghosts K V} {b : partial_eq.Ghosts K}
     pub err : OnErr result (cache_of new ≡ cache_of old)
     pub back : IfErr result (IsRefusal key entry (is_above key entry old) (keeps old key))
 
-  -- what is kept for the key, which stays where it is
+  -- the entry kept for the key is shared, and stays where it is
   pub record Hits {E : Type 0} (key : K) (old new : ByteCache K J L V a b c d) (result : Result (Option (Entry K J L V a b c d)) E)
       : Type 0 where
     pub told : IfOk result (λ h. option_map kept_of h ≡ kept_in old key)

@@ -23,7 +23,7 @@ module _ {K J L V : Type 0} {a : cache_key.Ghosts K V} {b : partial_eq.Ghosts K}
   abbrev pub IsOf : K → Entry K J L V a b c d → Type 0
   IsOf key entry = IsTrue (is_of b.eq key entry)
 
-  -- what a list shows, its keys in order, what it keeps for a key, and whether it keeps something
+  -- the rows that a list shows, its keys in order, the entry that it keeps for a key, and whether it keeps one
   abbrev pub rows_in : Recent K J L V a b c d → List (K × Kept V)
   rows_in list = rows kept_of list.list.entries
 
@@ -46,7 +46,7 @@ module _ {K J L V : Type 0} {a : cache_key.Ghosts K V} {b : partial_eq.Ghosts K}
   abbrev pub SameSize : Recent K J L V a b c d → Recent K J L V a b c d → Type 0
   SameSize old new = (new.bytes ≡ old.bytes) × (new.list.cap ≡ old.list.cap)
 
-  -- what a list keeps for the key, which stays where it is
+  -- the entry that a list keeps for the key is shared, and stays where it is
   pub record HitsIn {E : Type 0} (key : K) (old new : Recent K J L V a b c d) (result : Result (Option (Entry K J L V a b c d)) E)
       : Type 0 where
     pub told : IfOk result (λ h. option_map kept_of h ≡ found_in old key)

@@ -54,6 +54,7 @@ impl<K: CacheKey, J: System, L> ByteCache<K, J, L> {
     ghost use Rattle.std.specs.Prelude.{IfOk};
     ghost use Rattle.std.specs.Borrow.{sem};
     ghost use Rattle.std.specs.Io.BufRead.{Rests};
+    ghost use Rattle.std.specs.NonZero.{non_zero_usize_get};
     ghost use Rattle.iiif_tables.specs.Cache.{hot_side, main_side};
     ghost use Rattle.iiif_byte_cache.specs.Calls.{count_of, keeps, AreHotKeys, AreMainKeys, Evicts, Hits, IsEmpty, LendsKept, Puts};
     ghost use Rattle.iiif_byte_cache.specs.Calls.{Takes, Touches};
@@ -85,6 +86,13 @@ impl<K: CacheKey, J: System, L> ByteCache<K, J, L> {
         ensures { result ≡ (cache_of self.now).limit }
     {
         self.limit
+    }
+
+    /// Returns how many entries each list may have.
+    pub fn entries(&self) -> NonZeroUsize
+        ensures { non_zero_usize_get result ≡ (cache_of self.now).room }
+    {
+        self.lists.main.list.cap()
     }
 
     /// Returns how many bytes the entries take, with their keys. It takes no memory.

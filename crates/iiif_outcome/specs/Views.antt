@@ -73,7 +73,7 @@ module _ {K J L V : Type 0} {a b c d : _} where
   abbrev pub kept_of : Entry K J L V a b c d → Kept V
   kept_of e = record { value = arc_value e.value; ticket = e.receipt.ticket }
 
-  -- what the cell of that flight has
+  -- the content of that flight's cell
   abbrev pub entry_known : Entry K J L V a b c d → Option (Landed K J V a b c d)
   entry_known e = receipt_known e.receipt
 

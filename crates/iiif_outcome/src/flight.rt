@@ -72,7 +72,7 @@ impl<K: CacheKey, J: System, L> Flight<K, J, L> {
         ensures back { IfErr result (λ f. (flight_cell f ≡ flight_cell self) × (flight_key f ≡ flight_key self) ×
             (flight_ticket f ≡ flight_ticket self)) }
         ensures forgets_nothing { IfErr result (λ f. IfSome (flight_known self) (λ x. flight_known f ≡ Some x)) }
-        // What stands in the cell by then is of no other flight, unless a cell was given to two.
+        // By then the cell has an outcome of no other flight, unless a cell was given to two.
         ensures unknown { IfErr result (λ f. ForSome (flight_known f)
             (λ x. (x.ticket ≢ flight_ticket self) ⊎ IsFalse (K.eq (arc_value x.key) (flight_key self)))) }
     {

@@ -12,7 +12,7 @@ use once_cell::race::{Note, OnceBox};
 use std::marker::PhantomData;
 use std::sync::Arc;
 
-/// Right to read the outcome of a flight of the table of the ledger `L`, which stands in the flight's cell. What a receipt knows never
+/// Right to read the outcome of a flight of the table of the ledger `L`, which stands in the flight's cell. A receipt's knowledge never
 /// changes.
 #[derive(Drop)]
 pub struct Receipt<K: CacheKey, J: System, L> {
