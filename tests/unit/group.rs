@@ -19,6 +19,7 @@ mod meetings;
 mod messages;
 mod nodes;
 mod note_tests;
+mod owner_tests;
 mod peers;
 mod run_tests;
 mod runs;

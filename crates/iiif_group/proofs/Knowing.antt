@@ -1,4 +1,4 @@
--- What a receipt of a key knows.
+-- The outcome that a receipt of a key knows.
 use Rattle.std.proofs.Common.{◌≡◌, Option, None, Some, IfSome, subst}
 use Rattle.std.specs.Arc.{arc_value}
 use Rattle.iiif_keys.specs.declared.cache_key.CacheKey as cache_key
@@ -7,7 +7,7 @@ use Rattle.iiif_outcome.specs.Views.{receipt_known}
 use Rattle.iiif_outcome.specs.declared.landed.Landed.{Landed}
 use Rattle.iiif_outcome.specs.declared.receipt.Receipt.{Receipt}
 use Rattle.iiif_group.specs.Beginning.{KnowsOf, OutcomeIs}
-use Rattle.iiif_group.specs.Code.{IsOf}
+use Rattle.iiif_singleflight.specs.Handles.{IsOf}
 
 module _ {K J V : Type 0} {a : cache_key.Ghosts K V} {b c : _} {d : system.Ghosts J} (key : K) where
   known_of_key : (o : Option (Landed K J V a b c d)) → IfSome o (λ x. arc_value x.key ≡ key) → IfSome o (λ x. (arc_value x.key ≡ key) ×

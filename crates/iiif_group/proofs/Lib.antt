@@ -1,2 +1,2 @@
-mod Entering
 mod Knowing
+mod Landing

@@ -1,12 +1,12 @@
--- What a call of a group is told, and what is counted.
+-- Answers to calls of a group, and their counts.
 --
 --   outcome    of a key: a value of its shape, which is its meaning where the premises hold; or a fault that may be told of it
 --   share      an outcome's value for one more holder, or lack of memory
 --   begun      the answer to a call: the outcome of a flight of its key, or a load that the caller owes
 --   asked      of a load: the key's owner was asked, and gave no value
---   gate       what each load passes
-use Rattle.std.specs.Prelude.{◌≡◌, ◌≢◌, ℕ, ◌+◌, ◌≤◌, Bool, List, IfSome, IsFalse, IsSomeAnd, IsTrue, MatchOption, OnErr, OnOk}
-use Rattle.std.specs.Prelude.{Some, Result, Ok, Err, is_some, slice_get}
+--   gate       each load passes it
+use Rattle.std.specs.Prelude.{◌≡◌, ℕ, ◌+◌, ◌≤◌, Bool, List, IfSome, IsFalse, IsTrue, MatchOption, OnErr, OnOk}
+use Rattle.std.specs.Prelude.{Some, Result, Ok, Err, is_some}
 use Rattle.std.specs.Result.{ForOk, ForErr}
 use Rattle.std.specs.Arc.{arc_value}
 use Rattle.std.specs.declared.sync.Arc.{Arc}
@@ -17,16 +17,18 @@ use Rattle.iiif_keys.specs.declared.fault.Fault.{Fault}
 use Rattle.iiif_keys.specs.declared.fault.Fault.TheVariants.{NoMemory}
 use Rattle.iiif_keys.specs.declared.keys.Shape.{Shape}
 use Rattle.iiif_keys.specs.declared.system.System as system
-use Rattle.iiif_ring.specs.Owner.{IsOwner}
 use Rattle.iiif_outcome.specs.Outcomes.{is_given, value_of}
 use Rattle.iiif_outcome.specs.Views.{receipt_known}
 use Rattle.iiif_outcome.specs.declared.receipt.Receipt.{Receipt}
+use Rattle.iiif_singleflight.specs.Handles.{checked_cell, checked_key}
+use Rattle.iiif_singleflight.specs.View.{wide_leads}
 use Rattle.iiif_singleflight.specs.declared.pass.Pass.{Pass}
 use Rattle.iiif_group.specs.Leads.{asked_lead}
-use Rattle.iiif_group.specs.Views.{checked_cell, checked_key}
+use Rattle.iiif_group.specs.Owners.{cluster_in, IsOthers, OwnsKey}
 use Rattle.iiif_group.specs.declared.begun.Begun.{Begun}
 use Rattle.iiif_group.specs.declared.begun.Begun.TheVariants.{Known, Load}
 use Rattle.iiif_group.specs.declared.begun.Open.{Open}
+use Rattle.iiif_group.specs.declared.group.Cluster.{Cluster}
 use Rattle.iiif_group.specs.declared.group.Group.{Group}
 
 -- An outcome of a key: a value of its shape, which is its meaning where the bytes of its image are stable and the other nodes are
@@ -102,19 +104,20 @@ module _ {K J L V : Type 0} {a b c d e : _} where
   HasAsked (Load o) = IsTrue (was_asked o)
 
 module _ {K J L N T V : Type 0} {a b c d e : _} where
-  -- This node owns the key with these bytes.
-  abbrev pub OwnsKey : Group K J L N T V a b c d e → List ℕ → Type 0
-  OwnsKey group key = IsSomeAnd group.own (λ i. IsSomeAnd (slice_get group.ring i) (IsOwner group.ring key))
+  -- The nodes among which the group stands.
+  abbrev pub cluster_of : Group K J L N T V a b c d e → Cluster N
+  cluster_of group = cluster_in group.nodes
 
-  -- A node at another place of the ring owns it.
-  abbrev pub IsOthers : Group K J L N T V a b c d e → List ℕ → Type 0
-  IsOthers group key = (i : ℕ) × (group.own ≢ Some i) × IsSomeAnd (slice_get group.ring i) (IsOwner group.ring key)
+  -- No node at another place of the ring owns the key with these bytes: it is this node's own.
+  abbrev pub HasNoOthers : Group K J L N T V a b c d e → List ℕ → Type 0
+  HasNoOthers group key = IsOthers (cluster_of group) key → ⊥
 
 module _ {K J L N T V : Type 0} {a b c d e f : _} where
   -- A load is owed without having asked by a node that owns the key alone, and after having asked where another node owns it.
   abbrev pub AsksOwner : Group K J L N T V a b c d e → List ℕ → Begun K J L V a b c d f → Type 0
   AsksOwner group key (Known r) = Unit {0}
-  AsksOwner group key (Load o) = (IsFalse (was_asked o) → OwnsKey group key) × (IsTrue (was_asked o) → IsOthers group key)
+  AsksOwner group key (Load o) = (IsFalse (was_asked o) → OwnsKey (cluster_of group) key) ×
+      (IsTrue (was_asked o) → IsOthers (cluster_of group) key)
 
 module _ {K J L V : Type 0} {a : cache_key.Ghosts K V} {b c : _} {d : system.Ghosts J} where
   -- The receipt knows an outcome of this key.
@@ -138,16 +141,22 @@ module _ {L : Type 0} where
     pub refused : OnErr result (new.gets ≡ old.gets)
     -- The pass has as many parts as before.
     pub parts : new.parts ≡ old.parts
+    -- It leads no wide flight.
+    pub led : wide_leads new ≡ wide_leads old
 
   -- A call enters twice at most.
   pub record CountsTwiceAtMost {X E : Type 0} (old new : Pass L) (result : Result X E) : Type 0 where
     -- It is counted where it begins, and again where it enters again.
     pub counted : OnOk result ((old.gets + 1 ≤ new.gets) × (new.gets ≤ old.gets + 2))
-    -- It isn't where it is refused.
+    -- It enters again only where it leads a wide flight: a call that hits, or that joined, doesn't.
+    pub again : OnOk result (new.gets + wide_leads old ≤ old.gets + 1 + wide_leads new)
+    -- It leads one wide flight at most.
+    pub led : (wide_leads old ≤ wide_leads new) × (wide_leads new ≤ wide_leads old + 1)
+    -- It isn't counted where it is refused.
     pub refused : OnErr result (new.gets ≡ old.gets)
     -- The pass has as many parts as before.
     pub parts : new.parts ≡ old.parts
 
--- What loads of a group pass.
+-- The gate that loads of a group pass.
 abbrev pub gate_of : {K J L N T V : Type 0} {a b c d e : _} → Group K J L N T V a b c d e → T
 gate_of group = group.gate

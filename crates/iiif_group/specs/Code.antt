@@ -1,65 +1,44 @@
 -- Words that only this crate's own functions need.
 --
---   meets      what a call is given that enters
---   lands      what a flight does to the table that lands in it
---   tells      what its leader is told
+--   lands      a flight that lands, with its outcome and the place for its value
+--   tells      its leader is told
 --   relays     a flight that lands with the outcome of another of its key
---   answers    what the owner of a key gave
-use Rattle.std.specs.Prelude.{◌≡◌, ◌≢◌, ℕ, ◌+◌, ◌≤◌, Bool, List, Option, Result, Err, Some, slice_get}
-use Rattle.std.specs.Prelude.{IfNone, IfSome, IsFalse, IsNone, IsSomeAnd, IsTrue, MatchOption, OnErr}
+--   answers    the answer of a key's owner
+use Rattle.std.specs.Prelude.{◌≡◌, ◌+◌, ◌≤◌, Bool, Result, Err, Some}
+use Rattle.std.specs.Prelude.{IfNone, IfSome, IsFalse, IsNone, IsTrue, MatchOption, OnErr}
 use Rattle.std.specs.Arc.{arc_value}
-use Rattle.std.specs.Borrow.{Bor}
 use Rattle.std.specs.declared.alloc.Global.{Global}
-use Rattle.std.specs.declared.cmp.PartialEq as partial_eq
 use Rattle.std.specs.declared.sync.Arc.{Arc}
 use Rattle.iiif_keys.specs.declared.cache_key.CacheKey as cache_key
 use Rattle.iiif_keys.specs.declared.fault.Fault.{Fault}
 use Rattle.iiif_keys.specs.declared.fault.Fault.TheVariants.{NoMemory}
 use Rattle.iiif_keys.specs.declared.system.System as system
-use Rattle.iiif_ring.specs.Owner.{IsOwner}
-use Rattle.iiif_tables.specs.Flights.{land}
-use Rattle.iiif_tables.specs.declared.table.Class.{Class}
 use Rattle.iiif_tables.specs.declared.table.Place.{Place}
-use Rattle.iiif_outcome.specs.Outcomes.{value_of, OutcomeFor}
-use Rattle.iiif_outcome.specs.Views.{entry_size, flight_cell, flight_key, flight_ticket, receipt_cell, receipt_known, receipt_ticket}
-use Rattle.iiif_outcome.specs.declared.flight.Flight.{Flight}
+use Rattle.iiif_outcome.specs.Outcomes.{OutcomeFor}
+use Rattle.iiif_outcome.specs.Views.{receipt_cell, receipt_known}
 use Rattle.iiif_outcome.specs.declared.receipt.Receipt.{Receipt}
-use Rattle.iiif_singleflight.specs.declared.pass.Pass.{Pass}
-use Rattle.iiif_singleflight.specs.View.{table_of}
-use Rattle.iiif_singleflight.specs.Completions.{completion_cell, completion_kept, completion_known, completion_own, completion_refused}
+use Rattle.iiif_singleflight.specs.Calls.{HasPlace}
+use Rattle.iiif_singleflight.specs.Completions.{completion_cell, completion_known, completion_own, completion_refused}
 use Rattle.iiif_singleflight.specs.Completions.{completion_taken}
+use Rattle.iiif_singleflight.specs.Handles.{checked_cell, checked_class, checked_key, IsOf}
+use Rattle.iiif_singleflight.specs.View.{wide_leads}
+use Rattle.iiif_singleflight.specs.declared.checked.CheckedLead.{CheckedLead}
 use Rattle.iiif_singleflight.specs.declared.completion.Completion.{Completion}
-use Rattle.iiif_singleflight.specs.declared.table.Table.{Table}
-use Rattle.iiif_group.specs.Beginning.{outcome_of, IsFirstFlight, OwnsKey}
-use Rattle.iiif_group.specs.Leads.{asked_lead}
-use Rattle.iiif_group.specs.Views.{checked_cell, checked_class, checked_key, checked_ticket, followed, slept}
+use Rattle.iiif_singleflight.specs.declared.pass.Pass.{Pass}
+use Rattle.iiif_group.specs.Beginning.{outcome_of, IsFirstFlight}
+use Rattle.iiif_group.specs.Leads.{answered_lead, answered_value, asked_lead, landing_lead, landing_outcome, landing_place}
 use Rattle.iiif_group.specs.declared.asked.Answer.{Answer}
 use Rattle.iiif_group.specs.declared.asked.Answer.TheVariants.{Value, Nothing}
+use Rattle.iiif_group.specs.declared.asked.Landing.{Landing}
 use Rattle.iiif_group.specs.declared.begun.Begun.{Begun}
 use Rattle.iiif_group.specs.declared.begun.Begun.TheVariants.{Known, Load}
 use Rattle.iiif_group.specs.declared.begun.Completed.{Completed}
-use Rattle.iiif_group.specs.declared.checked.CheckedLead.{CheckedLead}
-use Rattle.iiif_group.specs.declared.checked.Lookup.{Lookup}
-use Rattle.iiif_group.specs.declared.checked.Lookup.TheVariants.{Hit, Joined, Leads}
-use Rattle.iiif_group.specs.declared.group.Group.{Group}
 use Rattle.iiif_group.specs.declared.lookup.Told.{Told}
-use Rattle.iiif_group.specs.declared.waiting.Look.{Look}
-use Rattle.iiif_group.specs.declared.waiting.Look.TheVariants.{Landed, Open}
 
-module _ {K J L V : Type 0} {a : cache_key.Ghosts K V} {b : partial_eq.Ghosts K} {c : _} {d : system.Ghosts J} where
+module _ {K J L V : Type 0} {a : cache_key.Ghosts K V} {b c : _} {d : system.Ghosts J} where
   -- An outcome for the flight that is led.
   abbrev pub OutcomeOf : {A : Type 0} → CheckedLead K J L V a b c d → Result (Arc V A) Fault → Type 0
   OutcomeOf led o = OutcomeFor a d (checked_key led) o
-
-  -- What the receipt knows is of this key.
-  abbrev pub IsOf : K → Receipt K J L V a b c d → Type 0
-  IsOf key r = IfSome (receipt_known r) (λ x. arc_value x.key ≡ key)
-
-  -- A receipt or a flight of this key, or the lead of one of this key and class.
-  abbrev pub MeetsFor : Class → K → Lookup K J L V a b c d → Type 0
-  MeetsFor class key (Hit r) = IsOf key r
-  MeetsFor class key (Joined f) = flight_key (followed f) ≡ key
-  MeetsFor class key (Leads l) = (checked_key l ≡ key) × (checked_class l ≡ class)
 
   -- A value for the flight that is led.
   pub record IsAnswer (led : CheckedLead K J L V a b c d) (v : V) : Type 0 where
@@ -68,12 +47,12 @@ module _ {K J L V : Type 0} {a : cache_key.Ghosts K V} {b : partial_eq.Ghosts K}
     -- It has the key's shape.
     pub shaped : IsTrue (a.is_shaped d.pictures (checked_key led) v)
 
-  -- What came of a flight that landed with this outcome.
+  -- The completion of a flight that landed with this outcome.
   pub record ComesOf (led : CheckedLead K J L V a b c d) (outcome : Result (Arc V Global) Fault) (completion : Completion K J L V a b c d)
       : Type 0 where
     -- Where the cell took the outcome, it is known there.
     pub taken : IsTrue (completion_taken completion) → IfSome (completion_known completion) (λ x. x.outcome ≡ outcome)
-    -- What the cell has of this flight is of its key.
+    -- An outcome of this flight in the cell is of its key.
     pub own : IsTrue (completion_own completion) → IfSome (completion_known completion) (λ x. arc_value x.key ≡ checked_key led)
     -- An outcome that the cell refused comes back.
     pub refused : MatchOption (completion_refused completion) (IsTrue (completion_taken completion))
@@ -81,32 +60,26 @@ module _ {K J L V : Type 0} {a : cache_key.Ghosts K V} {b : partial_eq.Ghosts K}
     -- The cell is the flight's.
     pub cell : completion_cell completion ≡ checked_cell led
 
-  -- A flight lands in a table, with a value that is kept by its place.
-  pub record Lands (old new : Table K J L V a b c d) (led : CheckedLead K J L V a b c d) (outcome : Result (Arc V Global) Fault)
-      (place : Place) (completion : Completion K J L V a b c d) : Type 0 where
-    -- The table is what the definition makes of it.
-    pub table : table_of b.eq new ≡
-        land b.eq (entry_size a.key_bytes a.val_bytes) (completion_kept completion) (checked_class led)
-        (checked_key led) (checked_ticket led) (value_of outcome) place (table_of b.eq old)
-    -- What came of it.
-    pub told : ComesOf led outcome completion
+  -- A flight that lands with this outcome, and this place for its value.
+  pub record IsLanding (led : CheckedLead K J L V a b c d) (o : Result (Arc V Global) Fault) (p : Place) (landing : Landing K J L V a b c d)
+      : Type 0 where
+    -- The lead is its own.
+    pub lead : landing_lead landing ≡ led
+    -- So is the outcome.
+    pub outcome : landing_outcome landing ≡ o
+    -- And the place.
+    pub place : landing_place landing ≡ p
 
-  -- The receipt is of this flight.
-  pub record Ends (joined : Flight K J L V a b c d) (receipt : Receipt K J L V a b c d) : Type 0 where
-    -- It is of its ticket, and of the cell by which all learn who joined it.
-    pub flight : (receipt_cell receipt ≡ flight_cell joined) × (receipt_ticket receipt ≡ flight_ticket joined)
-    -- What it knows is of its key.
-    pub key : IsOf (flight_key joined) receipt
+  -- A flight that can land.
+  pub record CanLand (landing : Landing K J L V a b c d) : Type 0 where
+    -- Its outcome is one of its key.
+    pub outcome : OutcomeOf (landing_lead landing) (landing_outcome landing)
+    -- The place is one for its class.
+    pub place : HasPlace (checked_class (landing_lead landing)) (landing_place landing)
 
-  -- A follower looks at this flight: it has landed, or it is still the same one.
-  abbrev pub Finds : Flight K J L V a b c d → Look K J L V a b c d → Type 0
-  Finds joined (Landed r) = Ends joined r
-  Finds joined (Open s) = (flight_key (slept s) ≡ flight_key joined) × (flight_cell (slept s) ≡ flight_cell joined)
-      × (flight_ticket (slept s) ≡ flight_ticket joined)
-
-  -- The leader is told what landed, which is of its own flight.
+  -- The leader is told the outcome that stands in the cell, which is of its own flight.
   pub record Tells (completion : Completion K J L V a b c d) (told : Told K J L V a b c d) : Type 0 where
-    -- What stands in the cell is of the flight.
+    -- The outcome in the cell is of the flight.
     pub own : IsTrue (completion_own completion)
     -- The receipt is of the cell.
     pub receipt : (receipt_known told.receipt ≡ completion_known completion) × (receipt_cell told.receipt ≡ completion_cell completion)
@@ -116,11 +89,11 @@ module _ {K J L V : Type 0} {a : cache_key.Ghosts K V} {b : partial_eq.Ghosts K}
   -- A flight ends with this outcome, or hands it back.
   pub record Finishes (led : CheckedLead K J L V a b c d) (outcome : Result (Arc V Global) Fault) (told : Told K J L V a b c d)
       : Type 0 where
-    -- What the receipt knows is of the key.
+    -- The receipt's outcome is of the key.
     pub key : IsOf (checked_key led) told.receipt
     -- Where nothing is handed back, it is the outcome.
     pub ended : IfNone told.refused (IfSome (receipt_known told.receipt) (λ x. x.outcome ≡ outcome))
-    -- What is handed back is the outcome.
+    -- An outcome that is handed back is this one.
     pub refused : IfSome told.refused (λ b. (b.value.outcome ≡ outcome) × (arc_value b.value.key ≡ checked_key led))
     -- The cell is the flight's.
     pub cell : receipt_cell told.receipt ≡ checked_cell led
@@ -141,7 +114,7 @@ module _ {K J L V : Type 0} {a : cache_key.Ghosts K V} {b : partial_eq.Ghosts K}
   -- A flight ends with the outcome of another of its key, or with lack of memory.
   pub record Relays (led : CheckedLead K J L V a b c d) (receipt : Receipt K J L V a b c d) (told : Told K J L V a b c d) (same : Bool)
       : Type 0 where
-    -- What the receipt knows is of the key.
+    -- The receipt's outcome is of the key.
     pub key : IsOf (checked_key led) told.receipt
     -- An exact one has the other's outcome.
     pub exact : IsTrue same → IfNone told.refused (IfSome (receipt_known receipt) (λ x.
@@ -157,7 +130,7 @@ module _ {K J L V : Type 0} {a : cache_key.Ghosts K V} {b : partial_eq.Ghosts K}
 module _ {K J L V : Type 0} {a : cache_key.Ghosts K V} {b c : _} {d : system.Ghosts J} {e : _} where
   -- The owner's answer for the flight that is led: a value of the key, or the lead of one who asked.
   abbrev pub AnswersFor : CheckedLead K J L V a b c d → Answer K J L V a b c d e → Type 0
-  AnswersFor led (Value wide v) = (wide ≡ led) × IsAnswer led v
+  AnswersFor led (Value answered) = (answered_lead answered ≡ led) × IsAnswer led (answered_value answered)
   AnswersFor led (Nothing asked) = asked_lead asked ≡ led
 
 module _ {K J L V : Type 0} {a b c d e : _} where
@@ -172,12 +145,5 @@ pub record CountsOnceAtMost {L : Type 0} (old new : Pass L) : Type 0 where
   pub counted : (old.gets ≤ new.gets) × (new.gets ≤ old.gets + 1)
   -- The pass has as many parts as before.
   pub parts : new.parts ≡ old.parts
-
-module _ {K J L N T V : Type 0} {a b c d e : _} where
-  -- The link to the node that owns a key; none where this node owns it.
-  pub record IsPeer (group : Group K J L N T V a b c d e) (key : List ℕ) (link : Option (Bor N)) : Type 0 where
-    -- Without a link this node owns the key.
-    pub own : IfNone link (OwnsKey group key)
-    -- A link is that of another place, whose node owns it.
-    pub peer : IfSome link (λ l. (i : ℕ) × (group.own ≢ Some i) ×
-        IsSomeAnd (slice_get group.ring i) (IsOwner group.ring key) × (slice_get group.links.items i ≡ Some l.now))
+  -- It leads no wide flight.
+  pub led : wide_leads new ≡ wide_leads old

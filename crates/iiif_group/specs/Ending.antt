@@ -1,4 +1,4 @@
--- How a load ends: what the call is told that completes it.
+-- The end of a load, as the call is told it that completes it.
 --
 --   exact      of a receipt: it has the load's own outcome
 --   loaded     the receipt of the local flight, where the first one is of the wide flight

@@ -3,4 +3,4 @@ pub mod Code
 pub mod Ending
 pub mod Faults
 pub mod Leads
-pub mod Views
+pub mod Owners

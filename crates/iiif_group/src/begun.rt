@@ -3,14 +3,13 @@
 ghost use Rattle.std.specs.Prelude.{◌≡◌};
 ghost use Rattle.std.specs.Option.{ForSome};
 ghost use Rattle.iiif_tables.specs.declared.table.Class.TheVariants.{Local};
+ghost use Rattle.iiif_singleflight.specs.Handles.{checked_class, checked_key};
 ghost use Rattle.iiif_group.specs.Leads.{asked_lead};
-ghost use Rattle.iiif_group.specs.Views.{checked_class, checked_key};
 
 use crate::asked::Asked;
-use crate::checked::CheckedLead;
 use iiif_keys::{CacheKey, System};
 use iiif_outcome::Landed;
-use iiif_singleflight::Receipt;
+use iiif_singleflight::{CheckedLead, Receipt};
 use std::sync::ledger::Ledger;
 
 /// Duty to load a key's value and to complete the load. It can't be dropped. It leads the key's local flight; and its wide one too where

@@ -1,15 +1,17 @@
-//! Group: what stands behind its lock, the nodes among which it stands, and its counts.
+//! Group: the state behind its lock, the nodes of its cluster, and its counts.
 
-ghost use Rattle.std.specs.Prelude.{◌≡◌, ℕ, ◌+◌, ◌<◌, ◌^◌, length, vec_len, IfErr, IfOk, IfSome, IsTrue};
+ghost use Rattle.std.specs.Prelude.{◌≡◌, ℕ, ◌+◌, ◌<◌, ◌^◌, length, vec_len, IfErr, IfOk, IfSome};
 ghost use Rattle.std.specs.List.{sum_by};
+ghost use Rattle.std.specs.NonZero.{non_zero_usize_get};
 ghost use Rattle.iiif_tables.specs.Flights.{IsBook};
 ghost use Rattle.iiif_keys.specs.Ledgers.{all_parts};
-ghost use Rattle.iiif_singleflight.specs.View.{limit_of};
+ghost use Rattle.iiif_singleflight.specs.View.{limit_of, room_of};
 
+use crate::asked::Nodes;
 use iiif_keys::{CacheKey, PARTS, System};
 use iiif_pixel::NoMemory;
 use iiif_ring::Ring;
-use iiif_singleflight::{FullLedger, GroupState, Kept, Limit, Pass, StripedCondvar, Table};
+use iiif_singleflight::{FlightCondvar, FullLedger, GroupState, Kept, Limit, Pass, Table};
 use iiif_tables::Book;
 use std::alloc::Global;
 use std::num::NonZeroUsize;
@@ -30,18 +32,15 @@ pub struct Cluster<N> {
 #[derive(Drop)]
 pub struct Group<K: CacheKey, J: System, L: Ledger, N, T> {
     pub(crate) state: Mutex<GroupState<K, J, L>>,
-    pub(crate) sleepers: StripedCondvar,
-    pub(crate) ring: Ring,
-    pub(crate) own: Option<usize>,
-    pub(crate) links: Vec<N>,
+    pub(crate) sleepers: FlightCondvar<L>,
+    pub(crate) nodes: Nodes<N>,
     pub(crate) gate: T,
     pub(crate) alloc: Global,
     pub(crate) room: Limit<L>,
-    pub ghost one_a_place: { vec_len links ≡ length ring },
 }
 
 impl<K: CacheKey, J: System, L: Ledger, N, T> Group<K, J, L, N, T> {
-    ghost use Rattle.iiif_group.specs.Beginning.{OwnsKey};
+    ghost use Rattle.iiif_group.specs.Beginning.{cluster_of};
 
     /// Creates a group of a ledger that no other has, on a node of this cluster, with room for so many bytes in all and so many entries a
     /// list. The only error is lack of memory.
@@ -62,20 +61,18 @@ impl<K: CacheKey, J: System, L: Ledger, N, T> Group<K, J, L, N, T> {
         requires name { blank.name ≡ L.name }
         requires parts { blank.parts ≡ L.parts }
         requires all { L.parts ≡ all_parts }
-        // So much the table behind the lock may keep: its limit comes from that table alone.
+        // So much the table behind the lock may keep: the limit comes from that table alone.
         ensures limit { IfOk result (λ g. limit_of g.room ≡ bytes) }
-        ensures cluster { IfOk result (λ g. (g.ring ≡ cluster.ring) × (g.own ≡ cluster.own) × (g.links ≡ cluster.links)) }
+        ensures entries { IfOk result (λ g. room_of g.room ≡ non_zero_usize_get entries) }
+        ensures cluster { IfOk result (λ g. cluster_of g ≡ cluster) }
         ensures gate { IfOk result (λ g. g.gate ≡ gate) }
     {
-        let (table, pass) = Table::new(alloc, bytes, entries, PARTS, blank)?;
+        let (table, pass, sleepers) = Table::new(alloc, bytes, entries, PARTS, blank)?;
         let room = table.limit();
-        let Cluster { ring, own, links } = cluster;
         Ok(Group {
             state: Mutex::new(GroupState::new(table, pass, FullLedger::new())),
-            sleepers: StripedCondvar::new(),
-            ring,
-            own,
-            links,
+            sleepers,
+            nodes: Nodes::new(cluster),
             gate,
             alloc,
             room,
@@ -109,7 +106,7 @@ impl<K: CacheKey, J: System, L: Ledger, N, T> Group<K, J, L, N, T> {
     pub fn book<R: Wait>(&self, rt: &R) -> Book
         ensures { (in_flight : ℕ) × IsBook in_flight result }
     {
-        self.state.lock(rt).table.book()
+        self.state.lock(rt).book()
     }
 
     /// Returns how many bytes keys and values may take together.
@@ -128,23 +125,13 @@ impl<K: CacheKey, J: System, L: Ledger, N, T> Group<K, J, L, N, T> {
 
     /// Returns whether a value is kept for the key. It counts as no call.
     pub fn holds<R: Wait>(&self, rt: &R, key: &K) -> bool {
-        self.state.lock(rt).table.holds(key)
-    }
-
-    /// Returns whether this node owns the key, so that no other is asked for it. False where memory runs out.
-    pub fn owns(&self, key: &K) -> bool
-        ensures { IsTrue result → OwnsKey self.now (K.key_bytes key.now) }
-    {
-        match key.bytes(self.alloc) {
-            Ok(bytes) => self.owner_link(&bytes).is_none(),
-            Err(_) => false,
-        }
+        self.state.lock(rt).holds(key)
     }
 
     /// Returns how much is kept.
     pub fn kept<R: Wait>(&self, rt: &R) -> Kept
         ensures { result.bytes < 2 ^ 63 }
     {
-        self.state.lock(rt).table.kept()
+        self.state.lock(rt).kept()
     }
 }

@@ -14,11 +14,9 @@ pub use passes::{Passes, SumCalls, TileCalls};
 
 mod asked;
 pub mod begun;
-mod checked;
 pub mod gate;
 pub mod group;
 pub mod link;
 mod lookup;
 pub mod outcomes;
 pub mod passes;
-mod waiting;

@@ -23,33 +23,34 @@
 //! 3. The leader takes the lock, sets the cell, and lets go.
 //! 4. The leader wakes that stripe. The joiner takes the lock and reads the cell.
 //!
-//! The leader can't set the cell between 1 and 2. If it does so before 1, the joiner doesn't sleep.
+//! The leader can't set the cell between 1 and 2, since the joiner holds the lock: as a `Sleeper`, which a look under it makes. If the
+//! leader does so before 1, the joiner doesn't sleep.
 
 ghost use Rattle.std.specs.Prelude.{◌≡◌, IfOk};
+ghost use Rattle.iiif_tables.specs.declared.table.Class.TheVariants.{Local, Wide};
 ghost use Rattle.iiif_outcome.specs.Outcomes.{OutcomeFor};
+ghost use Rattle.iiif_singleflight.specs.Calls.{Counts};
+ghost use Rattle.iiif_singleflight.specs.Handles.{checked_class, checked_key, entered_of, followed, Ends, IsOf, MeetsFor};
 ghost use Rattle.iiif_group.specs.Beginning.{gate_of, open_key, AsksOwner, BegunOf, CountsOnce, CountsTwiceAtMost, HasAsked, IsAlone};
-ghost use Rattle.iiif_group.specs.Beginning.{IsPartOf, LoadsIf};
-ghost use Rattle.iiif_group.specs.Code.{ComesOf, CountsOnceAtMost, Ends, Finishes, IsAnswer, IsOf, IsToldBy, Joins, MeetsFor, OutcomeOf};
-ghost use Rattle.iiif_group.specs.Code.{Relays, Tells};
+ghost use Rattle.iiif_group.specs.Beginning.{HasNoOthers, IsPartOf, LoadsIf};
+ghost use Rattle.iiif_group.specs.Code.{AnswersFor, CanLand, ComesOf, CountsOnceAtMost, Finishes, IsAnswer, IsToldBy, Joins};
+ghost use Rattle.iiif_group.specs.Code.{OutcomeOf, Relays, Tells};
 ghost use Rattle.iiif_group.specs.Ending.{Completes};
-ghost use Rattle.iiif_group.specs.Leads.{asked_lead};
-ghost use Rattle.iiif_group.specs.Views.{checked_key, followed};
+ghost use Rattle.iiif_group.specs.Leads.{answered_lead, answered_value, asked_lead, landing_lead, landing_outcome, peer_key};
 
-use crate::asked::{Answer, Asked};
+use crate::asked::{Answer, Answered, Asked, Landing, Peer};
 use crate::begun::{Begun, Completed, Open};
-use crate::checked::{CheckedLead, Lookup, enter, land};
 use crate::gate::{Ending, Gate, Note, Step};
 use crate::group::Group;
 use crate::link::Link;
-use crate::outcomes::{share, share_outcome};
-use crate::waiting::{Follower, Look};
+use crate::outcomes::share_outcome;
 use iiif_keys::{CacheKey, Fault, Shape, System};
 use iiif_outcome::Landed;
 use iiif_pixel::NoMemory;
-use iiif_singleflight::{Completion, Pass, Receipt};
-use iiif_tables::{Class, Place};
+use iiif_singleflight::{CheckedLead, Completion, Follower, Look, Lookup, Pass, Receipt};
+use iiif_tables::Class;
 use std::sync::ledger::Ledger;
-use std::sync::{Arc, Wait};
+use std::sync::{Arc, Condvar, Wait};
 
 /// Outcome of a landing, as the leader of its flight is told it.
 #[derive(Drop)]
@@ -77,20 +78,46 @@ impl<K: CacheKey, J: System, L: Ledger, N, T> Group<K, J, L, N, T> {
         requires { IsPartOf K.CacheKey.own J.System key.now shape.now }
         ensures begun { IfOk result (BegunOf key.now) }
         ensures counts { CountsTwiceAtMost pass.old pass.new result }
+        // A key of this node's own is counted once.
+        ensures once { HasNoOthers self.now (K.key_bytes key.now) → CountsOnce pass.old pass.new result }
         ensures gated { IfOk result (LoadsIf (T.passed (gate_of self.now) (K.key_bytes key.now))) }
         // A load is owed once the owner was asked, if that is another node.
         ensures asked { IfOk result (AsksOwner self.now (K.key_bytes key.now)) }
     {
         let bytes = key.bytes(self.alloc)?;
-        let Some(owner) = self.owner_link(&bytes) else {
-            return self.begin_own(rt, pass, key, &bytes);
-        };
-        match self.enter(rt, pass, key, &bytes, Class::Wide)? {
+        match self.nodes.owner(&bytes) {
+            None => self.begin_own(rt, pass, key, &bytes),
+            Some(owner) => self.begin_others(rt, pass, key, shape, &bytes, &owner),
+        }
+    }
+
+    /// Looks up a key that another node owns, whose wide flight asks it.
+    fn begin_others<R: Wait>(
+        &self,
+        rt: &R,
+        pass: &mut Pass<L>,
+        key: &K,
+        shape: &Shape,
+        bytes: &[u8],
+        owner: &Peer<'_, N>,
+    ) -> Result<Begun<K, J, L>, NoMemory>
+    where
+        N: Link<K, J, R>,
+        T: Gate<R>,
+        requires part { IsPartOf K.CacheKey.own J.System key.now shape.now }
+        requires bytes { K.key_bytes key.now ≡ bytes.now }
+        requires owner { peer_key owner.now ≡ bytes.now }
+        ensures begun { IfOk result (BegunOf key.now) }
+        ensures counts { CountsTwiceAtMost pass.old pass.new result }
+        ensures gated { IfOk result (LoadsIf (T.passed (gate_of self.now) bytes.now)) }
+        ensures asked { IfOk result HasAsked }
+    {
+        match self.enter(rt, pass, key, bytes, Class::Wide)? {
             Lookup::Hit(receipt) => Ok(Begun::Known(receipt)),
             Lookup::Joined(follower) => Ok(Begun::Known(self.wait(rt, follower))),
-            Lookup::Leads(wide) => match self.ask(rt, pass.id, wide, &bytes, shape, owner) {
-                Answer::Value(wide, value) => Ok(Begun::Known(self.keep_answer(rt, wide, value))),
-                Answer::Nothing(asked) => Ok(self.fall_back(rt, pass, key, &bytes, asked)),
+            Lookup::Leads(wide) => match self.ask(rt, pass.id, wide, shape, bytes, owner) {
+                Answer::Value(answered) => Ok(Begun::Known(self.keep_answer(rt, answered))),
+                Answer::Nothing(asked) => Ok(self.fall_back(rt, pass, key, bytes, asked)),
             },
         }
     }
@@ -175,6 +202,55 @@ impl<K: CacheKey, J: System, L: Ledger, N, T> Group<K, J, L, N, T> {
         Begun::Known(self.relay(rt, asked, receipt).0.receipt)
     }
 
+    /// Asks the owner of a wide flight's key, and records the ask and what came of it. No lock is held.
+    fn ask<R>(
+        &self,
+        rt: &R,
+        pass: u64,
+        wide: CheckedLead<K, J, L>,
+        shape: &Shape,
+        bytes: &[u8],
+        owner: &Peer<'_, N>,
+    ) -> Answer<K, J, L>
+    where
+        N: Link<K, J, R>,
+        T: Gate<R>,
+        requires owner { K.key_bytes (checked_key wide) ≡ peer_key owner.now }
+        requires class { checked_class wide ≡ Wide }
+        requires part { IsPartOf K.CacheKey.own J.System (checked_key wide) shape.now }
+        ensures { AnswersFor wide result }
+    {
+        let (rank, ticket) = (wide.key().rank(), wide.ticket());
+        self.note_ask(rt, (pass, rank, ticket), bytes, Step::Asked);
+        let answer = owner.ask(rt, wide, shape);
+        let step = match &answer {
+            Answer::Value(_) => Step::Answered,
+            Answer::Nothing(_) => Step::Failed,
+        };
+        self.note_ask(rt, (pass, rank, ticket), bytes, step);
+        answer
+    }
+
+    /// Records a step of an ask: of which pass, of a key of which rank, and for which flight.
+    fn note_ask<R>(&self, rt: &R, ask: (u64, u32, u64), key: &[u8], step: Step)
+    where
+        T: Gate<R>,
+    {
+        if !self.gate.records() {
+            return;
+        }
+        let (pass, rank, ticket) = ask;
+        let note = Note {
+            step,
+            class: Class::Wide,
+            rank,
+            pass,
+            ticket,
+            key,
+        };
+        self.gate.note(rt, &note);
+    }
+
     /// Enters a call: looks the key up, joins its flight or opens one, and looks again, all under one lock.
     fn enter<R: Wait>(
         &self,
@@ -187,10 +263,10 @@ impl<K: CacheKey, J: System, L: Ledger, N, T> Group<K, J, L, N, T> {
     where
         T: Gate<R>,
         ensures met { IfOk result (MeetsFor class key.now) }
-        ensures counts { CountsOnce pass.old pass.new result }
+        ensures counts { Counts entered_of class pass.old pass.new result }
     {
         let mut state = self.state.lock(rt);
-        let entered = enter(&mut *state, pass, key, class);
+        let entered = state.enter(pass, key, class);
         if self.gate.records() {
             let (step, ticket) = step_of(&entered);
             let note = Note {
@@ -213,10 +289,10 @@ impl<K: CacheKey, J: System, L: Ledger, N, T> Group<K, J, L, N, T> {
         let mut follower = joined;
         let mut state = self.state.lock(rt);
         for _ in rt.forever() {
-            match follower.look() {
+            match follower.look(state) {
                 Look::Landed(receipt) => return receipt,
                 Look::Open(sleeper) => {
-                    let (woken, locked) = sleeper.sleep(rt, &self.sleepers, state);
+                    let (woken, locked) = sleeper.sleep(rt, &self.sleepers);
                     follower = woken;
                     state = locked;
                 }
@@ -243,7 +319,7 @@ impl<K: CacheKey, J: System, L: Ledger, N, T> Group<K, J, L, N, T> {
         let Open { local, wide } = load;
         match wide {
             None => {
-                let Told { receipt, refused } = self.finish(rt, local, outcome, Place::Main);
+                let Told { receipt, refused } = self.finish_load(rt, local, outcome);
                 Completed {
                     receipt,
                     loaded: None,
@@ -253,27 +329,22 @@ impl<K: CacheKey, J: System, L: Ledger, N, T> Group<K, J, L, N, T> {
             }
             Some(asked) => {
                 let (second, same) = share_outcome(&outcome);
-                let local = self.finish(rt, local, outcome, Place::Main);
+                let local = self.finish_load(rt, local, outcome);
                 let wide = self.finish_asked(rt, asked, second);
                 join(local, wide, same)
             }
         }
     }
 
-    /// Lands a wide flight with its owner's value, each tenth of which is kept.
-    fn keep_answer<R: Wait>(
-        &self,
-        rt: &R,
-        wide: CheckedLead<K, J, L>,
-        value: K::Value,
-    ) -> Receipt<K, J, L>
+    /// Lands a wide flight with its owner's value.
+    fn keep_answer<R: Wait>(&self, rt: &R, answered: Answered<K, J, L>) -> Receipt<K, J, L>
     where
         T: Gate<R>,
-        requires { IsAnswer wide value }
-        ensures { IsOf (checked_key wide) result }
+        requires { IsAnswer (answered_lead answered) (answered_value answered) }
+        ensures { IsOf (checked_key (answered_lead answered)) result }
     {
-        let outcome = share(self.alloc, value);
-        self.finish(rt, wide, outcome, Place::Peer).receipt
+        let landing = answered.into_landing(self.alloc);
+        self.finish(rt, landing).receipt
     }
 
     /// Lands a wide flight with the outcome of a local one of its key, and returns whether it has that outcome: it has lack of memory where
@@ -293,7 +364,23 @@ impl<K: CacheKey, J: System, L: Ledger, N, T> Group<K, J, L, N, T> {
         (self.finish_asked(rt, asked, outcome), exact)
     }
 
-    /// Lands a wide flight whose owner gave no value with an outcome of this node's own. The wide flight keeps nothing: the local one did.
+    /// Lands a local flight with the outcome of its load.
+    fn finish_load<R: Wait>(
+        &self,
+        rt: &R,
+        local: CheckedLead<K, J, L>,
+        outcome: Result<Arc<K::Value>, Fault>,
+    ) -> Told<K, J, L>
+    where
+        T: Gate<R>,
+        requires class { checked_class local ≡ Local }
+        requires outcome { OutcomeOf local outcome }
+        ensures { Finishes local outcome result }
+    {
+        self.finish(rt, Landing::of_load(local, outcome))
+    }
+
+    /// Lands a wide flight whose owner gave no value with an outcome of this node's own.
     fn finish_asked<R: Wait>(
         &self,
         rt: &R,
@@ -305,63 +392,46 @@ impl<K: CacheKey, J: System, L: Ledger, N, T> Group<K, J, L, N, T> {
         requires { OutcomeOf (asked_lead asked) outcome }
         ensures { Finishes (asked_lead asked) outcome result }
     {
-        self.finish(rt, asked.into_lead(), outcome, Place::Nowhere)
+        self.finish(rt, asked.into_landing(outcome))
     }
 
     /// Lands a flight and wakes who waits.
-    fn finish<R: Wait>(
-        &self,
-        rt: &R,
-        lead: CheckedLead<K, J, L>,
-        outcome: Result<Arc<K::Value>, Fault>,
-        place: Place,
-    ) -> Told<K, J, L>
+    fn finish<R: Wait>(&self, rt: &R, landing: Landing<K, J, L>) -> Told<K, J, L>
     where
         T: Gate<R>,
-        requires { OutcomeOf lead outcome }
-        ensures { Finishes lead outcome result }
+        requires { CanLand landing }
+        ensures { Finishes (landing_lead landing) (landing_outcome landing) result }
     {
         let landed = if self.gate.records() {
-            self.land_noted(rt, lead, outcome, place)
+            self.land_noted(rt, landing)
         } else {
-            self.land(rt, lead, outcome, place)
+            self.land(rt, landing)
         };
         self.tell(rt, landed)
     }
 
     /// Lands a flight under the lock. Nobody is woken yet.
-    fn land<R: Wait>(
-        &self,
-        rt: &R,
-        lead: CheckedLead<K, J, L>,
-        outcome: Result<Arc<K::Value>, Fault>,
-        place: Place,
-    ) -> Completion<K, J, L>
-        requires { OutcomeOf lead outcome }
-        ensures { ComesOf lead outcome result }
+    fn land<R: Wait>(&self, rt: &R, landing: Landing<K, J, L>) -> Completion<K, J, L>
+        requires { CanLand landing }
+        ensures { ComesOf (landing_lead landing) (landing_outcome landing) result }
     {
         let mut state = self.state.lock(rt);
-        land(&mut *state, lead, outcome, place)
+        landing.land(&mut *state)
     }
 
     /// Lands a flight and records it, both under one lock.
-    fn land_noted<R: Wait>(
-        &self,
-        rt: &R,
-        lead: CheckedLead<K, J, L>,
-        outcome: Result<Arc<K::Value>, Fault>,
-        place: Place,
-    ) -> Completion<K, J, L>
+    fn land_noted<R: Wait>(&self, rt: &R, landing: Landing<K, J, L>) -> Completion<K, J, L>
     where
         T: Gate<R>,
-        requires { OutcomeOf lead outcome }
-        ensures { ComesOf lead outcome result }
+        requires { CanLand landing }
+        ensures { ComesOf (landing_lead landing) (landing_outcome landing) result }
     {
+        let lead = landing.lead();
         let bytes = lead.key().bytes(self.alloc);
         let (class, rank, ticket) = (lead.class(), lead.key().rank(), lead.ticket());
-        let ending = ending_of(&outcome);
+        let (ending, place) = (ending_of(landing.outcome()), landing.place());
         let mut state = self.state.lock(rt);
-        let landed = land(&mut *state, lead, outcome, place);
+        let landed = landing.land(&mut *state);
         let note = Note {
             step: Step::Landed(ending, place, landed.kept()),
             class,
@@ -379,7 +449,7 @@ impl<K: CacheKey, J: System, L: Ledger, N, T> Group<K, J, L, N, T> {
 
     /// Wakes the followers of a flight that landed, and tells its leader how it ended. Where the cell refused the leader's outcome, which
     /// no run meets, another of this flight stands in it, which those who joined learn too. A cell with none of this flight tells nobody:
-    /// the leader then waits for good, as they do. What was evicted is dropped here, behind the lock.
+    /// the leader then waits for good, as they do. Entries that were evicted are dropped here, behind the lock.
     fn tell<R: Wait>(&self, rt: &R, landed: Completion<K, J, L>) -> Told<K, J, L>
         ensures { Tells landed result }
     {
@@ -390,10 +460,10 @@ impl<K: CacheKey, J: System, L: Ledger, N, T> Group<K, J, L, N, T> {
         if is_own {
             return Told { receipt, refused };
         }
-        let stripe = self.sleepers.of(ticket);
+        let unwoken = Condvar::new();
         let mut state = self.state.lock(rt);
         for _ in rt.forever() {
-            state = stripe.wait(rt, state);
+            state = unwoken.wait(rt, state);
         }
         unreachable!()
     }

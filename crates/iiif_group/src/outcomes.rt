@@ -5,8 +5,8 @@ ghost use Rattle.std.specs.Result.{ForErr, ForOk};
 ghost use Rattle.std.specs.Arc.{arc_value};
 ghost use Rattle.iiif_keys.specs.declared.fault.Fault.{Fault};
 ghost use Rattle.iiif_outcome.specs.Outcomes.{OutcomeFor};
+ghost use Rattle.iiif_singleflight.specs.Handles.{IsOf};
 ghost use Rattle.iiif_group.specs.Beginning.{Shares};
-ghost use Rattle.iiif_group.specs.Code.{IsOf};
 
 use iiif_keys::{CacheKey, Fault, System};
 use iiif_singleflight::Receipt;

@@ -18,7 +18,7 @@ module _ {K X Y : Type 0} (eq : K → K → Bool) (class : Class) (k : K) where
         | false ↦ refl
       ]))
 
--- what stands at a place already
+-- a value that stands at its place already
 pub with-same : {K X : Type 0} (eq : K → K → Bool) (ident : (a b : K) → eq a b ≡ true → a ≡ b) (class : Class) (k : K) (x : Option X)
     (m : Class → K → Option X)
     → m class k ≡ x → with_at eq class k x m ≡ m

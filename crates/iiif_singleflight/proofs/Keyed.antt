@@ -1,4 +1,4 @@
--- what stands at a key is for it
+-- An open flight at a key is for it.
 use Rattle.std.proofs.Common.{◌≡◌, Bool, true, cond, Option, Some, Result, Ok, Err, OnOk, OnErr, sym, ap, ◌∙◌, inl, inr}
 use Rattle.std.proofs.lemmas.Bool.{cases_Bool}
 

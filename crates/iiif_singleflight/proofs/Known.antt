@@ -1,4 +1,4 @@
--- Whose outcome is known.
+-- Outcomes that are known, and their keys.
 use Rattle.std.proofs.Common.{◌≡◌, Bool, true, Option, Some, None, Result, Ok, Err, IfSome, refl, sym, ap, subst}
 use Rattle.std.specs.Result.{ForOk}
 use Rattle.std.specs.declared.sync.Arc.{Arc}
@@ -19,13 +19,13 @@ module _ {K J V : Type 0} {a b c d : _} (eq : K → K → Bool) where
   knows_key re k None s h = cc
   knows_key re k (Some x) s h = let e : arc_value x.key ≡ k = h x refl in rw e (re k)
 
--- the value of an outcome is what each value of it is
+-- the value of an outcome is equal to anything that each value of it is
 pub value_meant : {V A E : Type 0} (o : Result (Arc V A) E) (w m : V) → ForOk o (λ v. arc_value v ≡ m) → value_of o ≡ Some w →
     value_of o ≡ Some m
 value_meant (Ok v) w m h e = ap Some (h v refl)
 value_meant (Err x) w m h e = cc
 
--- what is said of each value of an outcome is said of its value
+-- a fact of each value of an outcome is one of its value
 pub value_has : {V A E : Type 0} (o : Result (Arc V A) E) (w : V) (P : V → Type 0) → ForOk o (λ v. P (arc_value v)) → value_of o ≡ Some w →
     P w
 value_has (Ok v) w P h e = let is : arc_value v ≡ w = cc in subst P is (h v refl)

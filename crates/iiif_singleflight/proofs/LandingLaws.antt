@@ -1,4 +1,4 @@
--- What landing does to the counts and to what is kept
+-- Landing, in the counts and in the cache.
 use Rattle.std.proofs.Common.{◌≡◌, ℕ, ◌+◌, Bool, true, false, cond, Option, Result, Ok, Err, refl, arith}
 use Rattle.std.specs.Result.{is_err}
 use Rattle.std.specs.declared.sync.Arc.{Arc}

@@ -3,3 +3,4 @@ mod Keyed
 mod Known
 pub mod LandingLaws
 pub mod Laws
+mod Looking

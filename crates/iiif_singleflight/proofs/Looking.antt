@@ -1,7 +1,7 @@
 -- Entering a table, and looking again under the same lock.
-use Rattle.std.proofs.Common.{◌≡◌, ℕ, ◌+◌, Bool, true, false, Option, Some, None, IsSome, if◌then◌else◌, option_map, ap, refl}
+use Rattle.std.proofs.Common.{◌≡◌, ℕ, ◌+◌, Bool, true, false, Option, Some, None, IsSome, if◌then◌else◌, ap, refl, subst, sym}
 use Rattle.iiif_tables.specs.Cache.{Kept, kept_for}
-use Rattle.iiif_tables.specs.Flights.{Flight, Table, again, enter, has_ticket, led, met}
+use Rattle.iiif_tables.specs.Flights.{Flight, Table, again, enter, has_ticket, led, looking, met}
 use Rattle.iiif_tables.specs.declared.table.Class.{Class}
 
 met_led : {V : Type 0} (kept : Option (Kept V)) (flight : Option Flight) (next n : ℕ) → met kept flight next ≡ led n → kept ≡ None
@@ -23,10 +23,27 @@ module _ {K V : Type 0} (eq : K → K → Bool) (class : Class) (k : K) (t : Tab
   unfolding again
   again_none h = rw h (ap (λ (p : Option V × Table K V). p.0) (either (has_ticket n (t.flights class k)) (None, t)))
 
+  -- The same of a key that is equal, in a table that is.
+  pub led_keeps_nothing : (k' : K) (u : Table K V) → (enter eq class k t).0 ≡ led n → u ≡ (enter eq class k t).1 → k' ≡ k →
+      kept_for eq k' u.cache ≡ None
+  led_keeps_nothing k' u h same key =
+      subst (λ (q : K). kept_for eq q u.cache ≡ None) (sym key)
+      (subst (λ (v : Table K V). kept_for eq k v.cache ≡ None) (sym same) (enter_led_kept h))
+
+  looked_nothing : (b : Bool) (o : Option (Kept V)) → (if b then looking eq class k n o t else (None, t)).0 ≡ None
+      → (if b then looking eq class k n o t else (None, t)).1 ≡ t
+  looked_nothing false o h = refl
+  looked_nothing true None h = refl
+  looked_nothing true (Some e) h = cc
+
+  -- A look again that finds nothing changes nothing.
+  pub again_nothing : (again eq class k n t).0 ≡ None → (again eq class k n t).1 ≡ t
+  unfolding again
+  again_nothing h = looked_nothing (has_ticket n (t.flights class k)) (kept_for eq k t.cache) h
+
 -- A value that is found is something.
-pub found_none : {A B : Type 0} (f : A → B) (o : Option A) (x : A) (p : Option B) → o ≡ Some x → option_map f o ≡ p → p ≡ None → ⊥
-found_none f None x p h e n = cc
-found_none f (Some y) x p h e n = cc
+pub found_none : {A : Type 0} (x : A) (o : Option A) → Some x ≡ o → o ≡ None → ⊥
+found_none x o e n = cc
 
 pub none_is_some : {A : Type 0} (o : Option A) → o ≡ None → IsSome o → ⊥
 none_is_some None h s = cc

@@ -1,7 +1,11 @@
 -- The contracts of a table's calls.
---   Enters   a call enters: it hits, joins or leads
---   Lands    a flight lands, and its value is kept by its place
-use Rattle.std.specs.Prelude.{◌≡◌, ◌+◌, None, Result, IfOk, IfSome, IsTrue, MatchOption, OnErr, OnOk, option_map, if◌then◌else◌}
+--   Counts       a pass counts a call
+--   Enters       a call enters: it hits, joins or leads
+--   LooksAgain   a leader looks again, and its lead is checked or comes back
+--   HasPlace     a place for the value of a checked lead
+--   Lands        a flight lands, and its value is kept by its place
+use Rattle.std.specs.Prelude.{◌≡◌, ◌≢◌, ◌+◌, None, Some, Result, IfOk, IfSome, IsSome, IsTrue, MatchOption, OnErr, OnOk, option_map}
+use Rattle.std.specs.Prelude.{if◌then◌else◌}
 use Rattle.std.specs.Arc.{arc_value}
 use Rattle.std.specs.declared.alloc.Global.{Global}
 use Rattle.std.specs.declared.cmp.PartialEq as partial_eq
@@ -9,49 +13,83 @@ use Rattle.std.specs.declared.sync.Arc.{Arc}
 use Rattle.iiif_keys.specs.declared.cache_key.CacheKey as cache_key
 use Rattle.iiif_keys.specs.declared.fault.Fault.{Fault}
 use Rattle.iiif_keys.specs.declared.system.System as system
-use Rattle.iiif_tables.specs.Flights.{enter, has_ticket, land}
+use Rattle.iiif_tables.specs.Cache.{kept_for}
+use Rattle.iiif_tables.specs.Flights.{again, enter, has_ticket, land}
 use Rattle.iiif_tables.specs.declared.table.Class.{Class}
+use Rattle.iiif_tables.specs.declared.table.Class.TheVariants.{Wide, Local}
 use Rattle.iiif_tables.specs.declared.table.Place.{Place}
+use Rattle.iiif_tables.specs.declared.table.Place.TheVariants.{Main}
 use Rattle.iiif_outcome.specs.Outcomes.{value_of}
 use Rattle.iiif_outcome.specs.Views.{entry_size, lead_cell, lead_class, lead_key, lead_ticket}
 use Rattle.iiif_outcome.specs.declared.lead.Lead.{Lead}
 use Rattle.iiif_singleflight.specs.Completions.{completion_cell, completion_kept, completion_known, completion_own, completion_refused}
 use Rattle.iiif_singleflight.specs.Completions.{completion_taken, completion_ticket, told_ticket}
-use Rattle.iiif_singleflight.specs.Entering.{CellsMeet, HitMeans, HitOf, HitPasses, Meets}
+use Rattle.iiif_singleflight.specs.Entering.{led_wide, CellsMeet, HitMeans, HitOf, HitPasses, Meets}
+use Rattle.iiif_singleflight.specs.Handles.{checked_lead}
 use Rattle.iiif_singleflight.specs.Held.{open_at}
 use Rattle.iiif_singleflight.specs.Seen.{the_flight, with_at}
-use Rattle.iiif_singleflight.specs.View.{cells_of, table_of}
+use Rattle.iiif_singleflight.specs.View.{cells_of, table_of, wide_leads}
+use Rattle.iiif_singleflight.specs.declared.checked.Again.{Again}
+use Rattle.iiif_singleflight.specs.declared.checked.Again.TheVariants.{Nothing, Found, Refused}
 use Rattle.iiif_singleflight.specs.declared.completion.Completion.{Completion}
 use Rattle.iiif_singleflight.specs.declared.entered.Entered.{Entered}
 use Rattle.iiif_singleflight.specs.declared.pass.Pass.{Pass}
 use Rattle.iiif_singleflight.specs.declared.table.Table.{Table}
 
+-- the place for the value of a checked lead: main for a load of this node's own, and never for a value that another node gave
+abbrev pub HasPlace : Class → Place → Type 0
+HasPlace Local place = place ≡ Main
+HasPlace Wide place = place ≢ Main
+
 module _ {K J L V : Type 0} {a : cache_key.Ghosts K V} {b : partial_eq.Ghosts K} {c : _} {d : system.Ghosts J} where
-  -- a call for a key enters a table in a class, counted by its pass
-  pub record Enters {E : Type 0} (class : Class) (key : K) (old new : Table K J L V a b c d) (before after : Pass L)
-      (result : Result (Entered K J L V a b c d) E) : Type 0 where
-    -- what is kept, in flight and counted changes as `enter` says
+  -- a pass counts a call of a class; `view` is the answer as a table gives it
+  pub record Counts {X E : Type 0} (view : X → Entered K J L V a b c d) (class : Class) (before after : Pass L) (result : Result X E)
+      : Type 0 where
+    -- it counts one call more
+    pub counted : OnOk result (after.gets ≡ before.gets + 1)
+    -- and one wide flight more where the call leads one
+    pub led : IfOk result (λ e. wide_leads after ≡ wide_leads before + led_wide class (view e))
+    -- a call that is refused isn't counted
+    pub refused : OnErr result ((after.gets ≡ before.gets) × (wide_leads after ≡ wide_leads before))
+    -- the pass keeps its parts
+    pub parts : after.parts ≡ before.parts
+
+  -- a call for a key enters a table in a class, counted by its pass; `view` is the answer as a table gives it
+  pub record Enters {X E : Type 0} (view : X → Entered K J L V a b c d) (class : Class) (key : K) (old new : Table K J L V a b c d)
+      (before after : Pass L) (result : Result X E) : Type 0 where
+    -- the cache, the flights and the counts change as `enter` says
     pub table : OnOk result (table_of b.eq new ≡ (enter b.eq class key (table_of b.eq old)).1)
     -- the call hits, joins the open flight or leads a new one, as `enter` says
-    pub met : IfOk result (λ e. Meets class key (enter b.eq class key (table_of b.eq old)).0 e)
+    pub met : IfOk result (λ e. Meets class key (enter b.eq class key (table_of b.eq old)).0 (view e))
     -- a hit's outcome is of a flight for this key
-    pub known : IfOk result (λ e. HitOf key e)
+    pub known : IfOk result (λ e. HitOf key (view e))
     -- where the image's bytes are stable and the other nodes honest, a hit's value is the key's meaning
-    pub meant : IfOk result (λ e. HitMeans (d.stable (a.name_of key) × IsTrue d.honest) (a.meaning d.pictures key) e)
+    pub meant : IfOk result (λ e. HitMeans (d.stable (a.name_of key) × IsTrue d.honest) (a.meaning d.pictures key) (view e))
     -- a hit's value has the shape of the key's meaning
-    pub shaped : IfOk result (λ e. HitPasses (a.is_shaped d.pictures key) e)
+    pub shaped : IfOk result (λ e. HitPasses (a.is_shaped d.pictures key) (view e))
     -- a call that joins has the cell of the open flight; a new flight brings a cell, and all others keep theirs
-    pub cells : IfOk result (λ e. CellsMeet b.eq class key (cells_of b.eq old) (cells_of b.eq new) e)
-    -- the pass counts one call more, and keeps its parts
-    pub pass : OnOk result ((after.gets ≡ before.gets + 1) × (after.parts ≡ before.parts))
-    -- an error leaves the table and the pass as they were
-    pub err : OnErr result ((table_of b.eq new ≡ table_of b.eq old) × (cells_of b.eq new ≡ cells_of b.eq old) ×
-        (after.gets ≡ before.gets) × (after.parts ≡ before.parts))
+    pub cells : IfOk result (λ e. CellsMeet b.eq class key (cells_of b.eq old) (cells_of b.eq new) (view e))
+    -- the pass counts the call
+    pub pass : Counts view class before after result
+    -- an error leaves the table as it was
+    pub err : OnErr result ((table_of b.eq new ≡ table_of b.eq old) × (cells_of b.eq new ≡ cells_of b.eq old))
+
+  -- a leader looks again: its lead is checked where `again` finds nothing, and comes back where a value is kept
+  abbrev pub LooksAgain : Lead K J L V a b c d → Table K J L V a b c d → Table K J L V a b c d → Again K J L V a b c d → Type 0
+  LooksAgain lead old new (Nothing l) = (checked_lead l ≡ lead) × (table_of b.eq new ≡ table_of b.eq old) ×
+      (cells_of b.eq new ≡ cells_of b.eq old) ×
+      ((again b.eq (lead_class lead) (lead_key lead) (lead_ticket lead) (table_of b.eq old)).0 ≡ None)
+  LooksAgain lead old new (Found l v) = (l ≡ lead) ×
+      (table_of b.eq new ≡ (again b.eq (lead_class lead) (lead_key lead) (lead_ticket lead) (table_of b.eq old)).1) ×
+      (cells_of b.eq new ≡ cells_of b.eq old) ×
+      (Some (arc_value v) ≡ (again b.eq (lead_class lead) (lead_key lead) (lead_ticket lead) (table_of b.eq old)).0)
+  LooksAgain lead old new (Refused l) = (l ≡ lead) × (table_of b.eq new ≡ table_of b.eq old) ×
+      (cells_of b.eq new ≡ cells_of b.eq old) × IsSome (kept_for b.eq (lead_key lead) (table_of b.eq old).cache)
 
   -- a flight lands in a table with an outcome, and its value is kept by its place
   pub record Lands (lead : Lead K J L V a b c d) (outcome : Result (Arc V Global) Fault) (place : Place)
       (old new : Table K J L V a b c d) (completion : Completion K J L V a b c d) : Type 0 where
-    -- what is kept, in flight and counted changes as `land` says
+    -- the cache, the flights and the counts change as `land` says
     pub table : table_of b.eq new ≡ land b.eq (entry_size a.key_bytes a.val_bytes) (completion_kept completion) (lead_class lead)
         (lead_key lead) (lead_ticket lead) (value_of outcome) place (table_of b.eq old)
     -- the ticket by which followers are woken is the flight's

@@ -2,6 +2,7 @@
 --   Meets                        the answer that the definition gives: a hit, the flight to join, or the lead of a new one
 --   CellsMeet                    the cell that goes with it
 --   HitMeans, HitPasses, HitOf   a hit's value is this, or passes this test; and its outcome is of this key
+--   led_wide                     how many wide flights the call leads
 use Rattle.std.specs.Prelude.{◌≡◌, ℕ, Bool, IsTrue, IfSome, Option, Some, None}
 use Rattle.std.specs.Result.{ForOk}
 use Rattle.std.specs.Arc.{arc_value}
@@ -11,6 +12,7 @@ use Rattle.iiif_tables.specs.declared.table.Class.{Class}
 use Rattle.iiif_outcome.specs.Outcomes.{value_of}
 use Rattle.iiif_outcome.specs.Views.{flight_cell, flight_key, flight_ticket, lead_cell, lead_class, lead_key, lead_known, lead_ticket}
 use Rattle.iiif_outcome.specs.Views.{receipt_known, receipt_ticket}
+use Rattle.iiif_singleflight.specs.Classes.{one_if_wide}
 use Rattle.iiif_singleflight.specs.Seen.{with_at}
 use Rattle.iiif_singleflight.specs.declared.entered.Entered.{Entered}
 use Rattle.iiif_singleflight.specs.declared.entered.Entered.TheVariants.{Hit, Joined, Lead}
@@ -47,3 +49,9 @@ module _ {K J L V : Type 0} {a b c d : _} where
   HitOf k (Hit r) = IfSome (receipt_known r) (λ x. arc_value x.key ≡ k)
   HitOf k (Joined f) = Unit {0}
   HitOf k (Lead l) = Unit {0}
+
+  -- a call of the wide class that leads has led one wide flight, any other none
+  abbrev pub led_wide : Class → Entered K J L V a b c d → ℕ
+  led_wide class (Hit r) = 0
+  led_wide class (Joined f) = 0
+  led_wide class (Lead l) = one_if_wide class

@@ -1,5 +1,5 @@
 -- Open flights as a function of class and key.
---   seen, held, open_at   what tables see of one flight, of a class's, and of all
+--   seen, held, open_at   one flight, a class's, and all, as tables see them
 --   per_class             one of two values, by class
 --   in_flight                 how many flights are open
 use Rattle.std.specs.Prelude.{ℕ, ◌+◌, Bool, Option, option_map}
@@ -11,11 +11,11 @@ use Rattle.iiif_singleflight.specs.Seen.{Seen}
 use Rattle.iiif_singleflight.specs.declared.flights_of_class.OpenFlight.{OpenFlight}
 use Rattle.iiif_singleflight.specs.declared.open_flights.OpenFlights.{OpenFlights}
 
--- what is seen of an open flight
+-- an open flight as it is seen
 abbrev pub seen : {K J L V : Type 0} {a b c d : _} → OpenFlight K J L V a b c d → Seen
 seen o = record { flight = record { ticket = flight_ticket o.flight; found = o.found }; cell = flight_cell o.flight }
 
--- what is open for a key
+-- the open flight of a key
 abbrev pub held : {K J L V S : Type 0} {a b c d : _} → (K → K → Bool) → HashMap K (OpenFlight K J L V a b c d) S → K → Option Seen
 held eq m q = option_map seen (get eq m q)
 
@@ -24,7 +24,7 @@ abbrev pub per_class : {A : Type 0} → A → A → Class → A
 per_class w l Wide = w
 per_class w l Local = l
 
--- what is open for each class and key
+-- the open flight of each class and key
 abbrev pub open_at : {K J L V : Type 0} {a b c d : _} → (K → K → Bool) → OpenFlights K J L V a b c d → Class → K → Option Seen
 open_at eq o c q = per_class (held eq o.wide.map q) (held eq o.local.map q) c
 

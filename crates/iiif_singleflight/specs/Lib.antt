@@ -1,7 +1,9 @@
 pub mod Calls
+pub mod Classes
 pub mod Completions
 pub mod Counting
 pub mod Entering
+pub mod Handles
 pub mod Held
 pub mod Keeping
 pub mod Seen

@@ -7,7 +7,7 @@ use Rattle.std.specs.Map.{update}
 use Rattle.iiif_tables.specs.Flights.{Flight, same_class}
 use Rattle.iiif_tables.specs.declared.table.Class.{Class}
 
--- what the table's definition has of it, and the cell in which its outcome will stand
+-- an open flight as the table's definition has it, and the cell in which its outcome will stand
 pub record Seen : Type 0 where
   pub flight : Flight
   pub cell : ℕ

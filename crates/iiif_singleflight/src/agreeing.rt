@@ -6,8 +6,8 @@ ghost use Rattle.iiif_outcome.specs.Views.{lead_cell, lead_class, lead_key, rece
 ghost use Rattle.iiif_singleflight.specs.View.{cells_of};
 
 use crate::entered::Entered;
+use crate::flight_condvar::FlightCondvar;
 use crate::pass::Pass;
-use crate::striped_condvar::StripedCondvar;
 use crate::table::Table;
 use iiif_keys::{CacheKey, Fault, System};
 use iiif_outcome::{Lead, Receipt};
@@ -23,7 +23,7 @@ pub fn who_joins_learns_what_lands<K: CacheKey, J: System, L: Ledger>(
     lead: Lead<K, J, L>,
     outcome: Result<Arc<K::Value>, Fault>,
     place: Place,
-    waiting: &StripedCondvar,
+    waiting: &FlightCondvar<L>,
 ) -> Option<(Receipt<K, J, L>, Receipt<K, J, L>)>
     requires is_open { cells_of K.eq table.old (lead_class lead) (lead_key lead) ≡ Some (lead_cell lead) }
     requires ends { OutcomeFor K.CacheKey.own J.System (lead_key lead) outcome }
@@ -58,7 +58,7 @@ pub fn who_joins_learns_what_lands<K: CacheKey, J: System, L: Ledger>(
 fn give_up<K: CacheKey, J: System, L: Ledger>(
     table: &mut Table<K, J, L>,
     lead: Lead<K, J, L>,
-    waiting: &StripedCondvar,
+    waiting: &FlightCondvar<L>,
 ) {
     let completion = table.land(lead, Err(Fault::NoMemory), Place::Nowhere);
     let woken = waiting.wake(completion.ticket());

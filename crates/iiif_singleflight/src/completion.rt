@@ -1,6 +1,6 @@
 //! Flights that have landed, before their callers know.
 
-use crate::striped_condvar::Woken;
+use crate::flight_condvar::Woken;
 use iiif_byte_cache::Evicted;
 use iiif_keys::{CacheKey, System};
 use iiif_outcome::{Entry, Landed, Receipt};
@@ -50,7 +50,7 @@ impl<K: CacheKey, J: System, L> Completion<K, J, L> {
 
     /// Takes out the receipt of what stands in the cell, once the flight's callers were woken, and drops the entries that were
     /// evicted. Where the cell refused the outcome, which then comes back, the receipt is of another.
-    pub fn into_receipt(self, woken: Woken) -> (Receipt<K, J, L>, Option<Box<Landed<K, J>>>)
+    pub fn into_receipt(self, woken: Woken<L>) -> (Receipt<K, J, L>, Option<Box<Landed<K, J>>>)
         requires { woken.ticket ≡ completion_ticket self }
         ensures receipt { (receipt_cell result.0 ≡ completion_cell self) × (receipt_known result.0 ≡ completion_known self) ×
             (receipt_ticket result.0 ≡ told_ticket self) }

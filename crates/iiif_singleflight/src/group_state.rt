@@ -3,18 +3,24 @@
 ghost use Rattle.std.specs.Prelude.{◌≡◌, ◌^◌, ◌≤◌, ℕ, IfSome, IfNone};
 ghost use Rattle.std.specs.List.{sum_by};
 
+use crate::checked::{Again, CheckedLead};
+use crate::completion::Completion;
+use crate::entered::{Entered, Lookup};
+use crate::follower::Follower;
 use crate::full_ledger::FullLedger;
 use crate::pass::Pass;
-use crate::table::Table;
-use iiif_keys::{CacheKey, PARTS, System};
-use iiif_tables::Book;
+use crate::table::{Kept, Table};
+use iiif_keys::{CacheKey, Fault, PARTS, System};
+use iiif_pixel::NoMemory;
+use iiif_tables::{Book, Class, Place};
+use std::sync::Arc;
 use std::sync::ledger::{Ledger, Share};
 
 /// State of a group, which its lock guards: the table, and the share of the ledger that no pass has. It keeps one part, so that 65,536
-/// passes can be out.
+/// passes can be out. The table is reached by the calls below alone: a call that leads looks again, and one that joined is a follower.
 #[derive(Drop)]
 pub struct GroupState<K: CacheKey, J: System, L: Ledger> {
-    pub table: Table<K, J, L>,
+    pub(crate) table: Table<K, J, L>,
     share: Share<L>,
     full: FullLedger<L>,
     /// The number of the pass that was taken last.
@@ -41,9 +47,15 @@ fn parts_of<L: Ledger>(passes: &[Pass<L>]) -> Option<u64>
 }
 
 impl<K: CacheKey, J: System, L: Ledger> GroupState<K, J, L> {
-    ghost use Rattle.std.specs.Prelude.{◌≢◌, ◌+◌, ◌%◌, IfOk, IfErr, OnOk};
+    ghost use Rattle.std.specs.Prelude.{◌≢◌, ◌+◌, ◌<◌, ◌%◌, IfOk, IfErr, OnOk, is_some, length};
     ghost use Rattle.iiif_keys.specs.Ledgers.{all_parts};
-    ghost use Rattle.iiif_singleflight.specs.View.{cells_of, table_of};
+    ghost use Rattle.iiif_tables.specs.Cache.{bytes_in, kept_for};
+    ghost use Rattle.iiif_tables.specs.Flights.{IsBook};
+    ghost use Rattle.iiif_outcome.specs.Outcomes.{OutcomeFor};
+    ghost use Rattle.iiif_outcome.specs.Views.{entry_size};
+    ghost use Rattle.iiif_singleflight.specs.Calls.{Enters, HasPlace, Lands};
+    ghost use Rattle.iiif_singleflight.specs.Handles.{checked_class, checked_key, checked_lead, entered_of, MeetsFor};
+    ghost use Rattle.iiif_singleflight.specs.View.{cells_of, table_of, wide_leads};
 
     /// Makes the state of a table and of the pass that has all parts of its ledger.
     pub fn new(table: Table<K, J, L>, pass: Pass<L>, full: FullLedger<L>) -> GroupState<K, J, L>
@@ -57,6 +69,7 @@ impl<K: CacheKey, J: System, L: Ledger> GroupState<K, J, L> {
             id,
             parts,
             gets,
+            led: _,
         } = pass;
         GroupState {
             table,
@@ -68,9 +81,72 @@ impl<K: CacheKey, J: System, L: Ledger> GroupState<K, J, L> {
         }
     }
 
+    /// Enters a call for a key, and looks again where it leads. Both happen under one lock, so nothing is kept for the key by then. The
+    /// only error is lack of memory, or that 2^64 - 1 calls have entered.
+    pub fn enter(
+        &mut self,
+        pass: &mut Pass<L>,
+        key: &K,
+        class: Class,
+    ) -> Result<Lookup<K, J, L>, NoMemory>
+        ensures entered { Enters entered_of class key.now self.old.table self.new.table pass.old pass.new result }
+        ensures met { IfOk result (MeetsFor class key.now) }
+        ensures home { (self.new.parts ≡ self.old.parts) × (self.new.gets ≡ self.old.gets) }
+    {
+        match self.table.enter(pass, key, class)? {
+            Entered::Hit(receipt) => Ok(Lookup::Hit(receipt)),
+            Entered::Joined(flight) => Ok(Lookup::Joined(Follower::new(flight))),
+            Entered::Lead(lead) => match self.table.look_again(lead) {
+                Again::Nothing(lead) => Ok(Lookup::Leads(lead)),
+                Again::Found(_lead, _value) => unreachable!(),
+                Again::Refused(_lead) => unreachable!(),
+            },
+        }
+    }
+
+    /// Lands a flight whose leader looked again, as `Table::land` does: a local one with a value for main, a wide one never.
+    pub fn land(
+        &mut self,
+        lead: CheckedLead<K, J, L>,
+        outcome: Result<Arc<K::Value>, Fault>,
+        place: Place,
+    ) -> Completion<K, J, L>
+        requires outcome { OutcomeFor K.CacheKey.own J.System (checked_key lead) outcome }
+        requires place { HasPlace (checked_class lead) place }
+        ensures landed { Lands (checked_lead lead) outcome place self.old.table self.new.table result }
+        ensures home { (self.new.parts ≡ self.old.parts) × (self.new.gets ≡ self.old.gets) }
+    {
+        self.table.land(lead.into_lead(), outcome, place)
+    }
+
+    /// Returns the counts.
+    pub fn book(&self) -> Book
+        ensures book { result ≡ (table_of K.eq self.now.table).book }
+        ensures sums { IsBook (table_of K.eq self.now.table).in_flight result }
+    {
+        self.table.book()
+    }
+
+    /// Returns whether a value is kept for the key. It changes and counts nothing, and takes no memory.
+    pub fn holds(&self, key: &K) -> bool
+        ensures { result ≡ is_some (kept_for K.eq key.now (table_of K.eq self.now.table).cache) }
+    {
+        self.table.holds(key)
+    }
+
+    /// Returns how much is kept. It takes no memory.
+    pub fn kept(&self) -> Kept
+        ensures bytes { result.bytes ≡ bytes_in (entry_size K.key_bytes K.val_bytes) (table_of K.eq self.now.table).cache }
+        ensures small { result.bytes < 2 ^ 63 }
+        ensures entries { result.entries ≡
+            length (table_of K.eq self.now.table).cache.main + length (table_of K.eq self.now.table).cache.hot }
+    {
+        self.table.kept()
+    }
+
     /// Takes a pass out for a caller. None where all are out. Passes are numbered one after another, modulo 2^64.
     pub fn pass(&mut self) -> Option<Pass<L>>
-        ensures some { IfSome result (λ p. (p.parts ≡ 1) × (p.gets ≡ 0) × (self.new.parts + 1 ≡ self.old.parts)) }
+        ensures some { IfSome result (λ p. (p.parts ≡ 1) × (p.gets ≡ 0) × (wide_leads p ≡ 0) × (self.new.parts + 1 ≡ self.old.parts)) }
         ensures id { IfSome result (λ p. (p.id ≡ (self.old.last_pass + 1) % 2 ^ 64) × (self.new.last_pass ≡ p.id)) }
         ensures home { self.new.gets ≡ self.old.gets }
         ensures none { IfNone result ((self.old.parts ≤ 1) × (self.new.parts ≡ self.old.parts) ×
@@ -90,6 +166,7 @@ impl<K: CacheKey, J: System, L: Ledger> GroupState<K, J, L> {
             id,
             parts: 1,
             gets: 0,
+            led: 0,
         })
     }
 
@@ -105,6 +182,7 @@ impl<K: CacheKey, J: System, L: Ledger> GroupState<K, J, L> {
             id: _,
             parts,
             gets,
+            led: _,
         } = pass;
         self.share.merge(share);
         self.table.tally.audit(&mut self.share);

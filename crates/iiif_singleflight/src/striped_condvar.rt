@@ -1,23 +1,15 @@
-//! Callers that wait for flights.
+//! Condition variables for callers that wait for numbers.
 
 use std::sync::Condvar;
 
-/// Sixteen condition variables, each for the tickets of one remainder: landing a flight wakes the callers of its stripe alone, so that
+/// Sixteen condition variables, each for the numbers of one remainder: waking for a number wakes the callers of its stripe alone, so that
 /// few wake in vain.
 #[derive(Drop)]
 pub struct StripedCondvar {
     stripes: [Condvar; 16],
 }
 
-/// Proof that the callers waiting for a ticket were woken. `StripedCondvar::wake` alone makes it.
-#[derive(Drop)]
-pub struct Woken {
-    ticket: u64,
-}
-
 impl StripedCondvar {
-    ghost use Rattle.std.specs.Prelude.{◌≡◌};
-
     /// Makes the condition variables, on which nobody waits.
     pub fn new() -> StripedCondvar {
         StripedCondvar {
@@ -42,16 +34,13 @@ impl StripedCondvar {
         }
     }
 
-    /// Returns the condition variable of a ticket, to wait on.
-    pub fn of(&self, ticket: u64) -> &Condvar {
-        &self.stripes[(ticket % 16) as usize]
+    /// Returns the condition variable of a number, to wait on.
+    pub fn of(&self, number: u64) -> &Condvar {
+        &self.stripes[(number % 16) as usize]
     }
 
-    /// Wakes the callers that wait for a ticket.
-    pub fn wake(&self, ticket: u64) -> Woken
-        ensures { result.ticket ≡ ticket }
-    {
-        self.of(ticket).notify_all();
-        Woken { ticket }
+    /// Wakes the callers that wait for a number.
+    pub fn wake(&self, number: u64) {
+        self.of(number).notify_all();
     }
 }

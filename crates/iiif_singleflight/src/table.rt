@@ -6,9 +6,10 @@ ghost use Rattle.iiif_singleflight.specs.Held.{in_flight};
 
 use crate::completion::Completion;
 use crate::entered::Entered;
+use crate::flight_condvar::FlightCondvar;
 use crate::keeping::{Arrival, count, keep, share_of};
 use crate::open_flights::OpenFlights;
-use crate::pass::Pass;
+use crate::pass::{Pass, count_wide};
 use iiif_byte_cache::ByteCache;
 use iiif_keys::{CacheKey, Fault, System};
 use iiif_outcome::{Ended, Lead};
@@ -42,10 +43,11 @@ pub struct Kept {
     pub entries: usize,
 }
 
-/// How many bytes the table of the ledger `L` may keep. That table alone makes it.
+/// How much the table of the ledger `L` may keep: so many bytes in all, and so many entries a list. That table alone makes it.
 #[derive(Drop)]
 pub struct Limit<L: Ledger> {
     bytes: u64,
+    entries: NonZeroUsize,
     of: PhantomData<L>,
 }
 
@@ -69,23 +71,23 @@ impl<K: CacheKey, J: System, L: Ledger> Table<K, J, L> {
     ghost use Rattle.iiif_outcome.specs.Outcomes.{OutcomeFor};
     ghost use Rattle.iiif_outcome.specs.Views.{entry_size, lead_class, lead_key, lead_ticket};
     ghost use Rattle.iiif_singleflight.specs.Calls.{Enters, Lands};
-    ghost use Rattle.iiif_singleflight.specs.View.{cells_of, limit_of, table_of};
+    ghost use Rattle.iiif_singleflight.specs.View.{cells_of, limit_of, room_of, table_of, wide_leads};
 
-    /// Makes the table of a ledger that no other has, for `bytes` bytes in all and `entries` entries a list, and the pass that has all
-    /// parts of the ledger. The only error is lack of memory.
+    /// Makes the table of a ledger that no other has, for `bytes` bytes in all and `entries` entries a list, the pass that has all parts
+    /// of the ledger, and the condition variables of the table's flights. The only error is lack of memory.
     pub fn new(
         alloc: Global,
         bytes: u64,
         entries: NonZeroUsize,
         parts: u64,
         blank: Blank,
-    ) -> Result<(Table<K, J, L>, Pass<L>), NoMemory>
+    ) -> Result<(Table<K, J, L>, Pass<L>, FlightCondvar<L>), NoMemory>
         requires name { blank.name ≡ L.name }
         requires parts { (blank.parts ≡ L.parts) × (L.parts ≡ parts) × (0 < parts) }
         requires bytes { bytes < 2 ^ 63 }
         ensures table { IfOk result (λ r. table_of K.eq r.0 ≡ empty_table bytes (non_zero_usize_get entries)) }
         ensures cells { IfOk result (λ r. cells_of K.eq r.0 ≡ (λ class key. None)) }
-        ensures pass { IfOk result (λ r. (r.1.parts ≡ parts) × (r.1.gets ≡ 0) × (r.1.id ≡ 0)) }
+        ensures pass { IfOk result (λ r. (r.1.parts ≡ parts) × (r.1.gets ≡ 0) × (wide_leads r.1 ≡ 0) × (r.1.id ≡ 0)) }
     {
         let cache = ByteCache::new(alloc, bytes, entries)?;
         let (tally, share) = blank.open::<L>();
@@ -112,8 +114,9 @@ impl<K: CacheKey, J: System, L: Ledger> Table<K, J, L> {
             id: 0,
             parts,
             gets: 0,
+            led: 0,
         };
-        Ok((table, pass))
+        Ok((table, pass, FlightCondvar::new()))
     }
 
     /// Returns the counts.
@@ -146,10 +149,12 @@ impl<K: CacheKey, J: System, L: Ledger> Table<K, J, L> {
 
     /// Returns how much may be kept.
     pub fn limit(&self) -> Limit<L>
-        ensures { limit_of result ≡ (table_of K.eq self.now).cache.limit }
+        ensures bytes { limit_of result ≡ (table_of K.eq self.now).cache.limit }
+        ensures entries { room_of result ≡ (table_of K.eq self.now).cache.room }
     {
         Limit {
             bytes: self.cache.limit(),
+            entries: self.cache.entries(),
             of: PhantomData,
         }
     }
@@ -162,7 +167,7 @@ impl<K: CacheKey, J: System, L: Ledger> Table<K, J, L> {
         key: &K,
         class: Class,
     ) -> Result<Entered<K, J, L>, NoMemory>
-        ensures { Enters class key.now self.old self.new pass.old pass.new result }
+        ensures { Enters (λ e. e) class key.now self.old self.new pass.old pass.new result }
     {
         if self.book.gets == u64::MAX {
             return Err(AllocError);
@@ -171,14 +176,14 @@ impl<K: CacheKey, J: System, L: Ledger> Table<K, J, L> {
             self.cache.touch(key);
             self.book.gets += 1;
             self.book.hits += 1;
-            pass.count(&mut self.tally);
+            pass.count(&mut self.tally, 0);
             return Ok(Entered::Hit(hit.into_receipt()));
         }
         if let Some(flight) = self.opens.join(class, key) {
             let flight = flight?;
             self.book.gets += 1;
             self.book.joins += 1;
-            pass.count(&mut self.tally);
+            pass.count(&mut self.tally, 0);
             return Ok(Entered::Joined(flight));
         }
         let ticket = self.book.leads + 1;
@@ -187,7 +192,7 @@ impl<K: CacheKey, J: System, L: Ledger> Table<K, J, L> {
             .open(self.alloc, class, key, ticket, &self.tally)?;
         self.book.gets += 1;
         self.book.leads += 1;
-        pass.count(&mut self.tally);
+        pass.count(&mut self.tally, count_wide(class));
         Ok(Entered::Lead(lead))
     }
 

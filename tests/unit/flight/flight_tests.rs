@@ -6,7 +6,8 @@ use crate::samples::{Lax, Sample};
 use iiif_keys::{Fault, PARTS};
 use iiif_outcome::learn_apart;
 use iiif_singleflight::{
-    Entered, Flight, FullLedger, GroupState, Lead, Pass, Receipt, StripedCondvar, Table,
+    Entered, Flight, FlightCondvar, Follower, FullLedger, GroupState, Lead, Look, Lookup, Pass,
+    Receipt, Table,
 };
 use iiif_source::ReadFault;
 use iiif_tables::{Book, Class, Place};
@@ -19,15 +20,25 @@ use std::thread;
 use std::thread::Threads;
 use std::time::{Clock, Duration};
 
-type Shared<L> = GroupState<Sample, Lax, L>;
+/// A table, the pass of all its parts, and the condition variables of its flights.
+#[derive(Drop)]
+struct Shared<L: Ledger> {
+    table: Table<Sample, Lax, L>,
+    pass: Pass<L>,
+    condvar: FlightCondvar<L>,
+}
 
 type Told = Result<u16, Fault>;
 
 /// A home for so many bytes.
 fn made<L: Ledger>(alloc: Global, bytes: u32, blank: Blank) -> Option<Shared<L>> {
     let entries = NonZeroUsize::new(8)?;
-    let (table, pass) = Table::new(alloc, u64::from(bytes), entries, PARTS, blank).ok()?;
-    Some(GroupState::new(table, pass, FullLedger::new()))
+    let (table, pass, condvar) = Table::new(alloc, u64::from(bytes), entries, PARTS, blank).ok()?;
+    Some(Shared {
+        table,
+        pass,
+        condvar,
+    })
 }
 
 /// The end of a flight, by its receipt.
@@ -84,7 +95,7 @@ fn look_and_land<L: Ledger>(
         Err(_) => (Err(Fault::NoMemory), Place::Nowhere),
     };
     let completion = home.table.land(lead, outcome, place);
-    let woken = StripedCondvar::new().wake(completion.ticket());
+    let woken = home.condvar.wake(completion.ticket());
     completion.into_receipt(woken).0
 }
 
@@ -106,31 +117,30 @@ fn landed<L: Ledger, R: Wait + Clock>(
     look_and_land(alloc, &mut *home, lead, tells)
 }
 
-/// Enters with this pass by a call of the wide class.
+/// Enters by a call of the wide class.
 fn entered<L: Ledger, R: Wait>(
     rt: &R,
     alloc: Global,
     home: &Mutex<Shared<L>>,
-    pass: &mut Pass<L>,
 ) -> Option<Entered<Sample, Lax, L>> {
     let key = sample(alloc, 7)?;
-    home.lock(rt).table.enter(pass, &key, Class::Wide).ok()
+    let mut home = home.lock(rt);
+    let Shared { table, pass, .. } = &mut *home;
+    table.enter(pass, &key, Class::Wide).ok()
 }
 
-/// Enters with this pass, which comes back; where it leads, waits until one has joined and lands; where it joined, learns what was landed.
+/// Enters; where the call leads, waits until one has joined and lands; where it joined, learns what was landed.
 fn ask<L: Ledger, R: Wait + Clock>(
     rt: &R,
     alloc: Global,
     home: &Mutex<Shared<L>>,
-    mut pass: Pass<L>,
     tells: Told,
-) -> Option<(Receipt<Sample, Lax, L>, Pass<L>)> {
-    let receipt = match entered(rt, alloc, home, &mut pass)? {
-        Entered::Hit(receipt) => receipt,
-        Entered::Joined(flight) => learned(rt, flight)?,
-        Entered::Lead(lead) => landed(rt, alloc, home, lead, tells),
-    };
-    Some((receipt, pass))
+) -> Option<Receipt<Sample, Lax, L>> {
+    match entered(rt, alloc, home)? {
+        Entered::Hit(receipt) => Some(receipt),
+        Entered::Joined(flight) => learned(rt, flight),
+        Entered::Lead(lead) => Some(landed(rt, alloc, home, lead, tells)),
+    }
 }
 
 /// The outcome of two calls that met, and of a third: what the leader, the one who joined and the third were told; whether the
@@ -148,12 +158,11 @@ fn third<L: Ledger, R: Wait + Clock>(
     rt: &R,
     alloc: Global,
     home: &Mutex<Shared<L>>,
-    pass: Pass<L>,
     leads: &mut Receipt<Sample, Lax, L>,
     joins: &mut Receipt<Sample, Lax, L>,
 ) -> Option<Met> {
     let before = counted(rt, home);
-    let (mut third, _pass) = ask(rt, alloc, home, pass, Ok(42))?;
+    let mut third = ask(rt, alloc, home, Ok(42))?;
     let same = (leads.same(joins), third.same(leads));
     let tells = (told(leads), told(joins), told(&mut third));
     Some((tells, same, before, counted(rt, home)))
@@ -164,32 +173,30 @@ fn meet<L: Ledger + Send + Sync, R: Threads + Wait + Clock + Sync>(
     rt: &R,
     alloc: Global,
     home: &Mutex<Shared<L>>,
-    one: Pass<L>,
-    two: Pass<L>,
     tells: Told,
 ) -> Option<Met> {
     let (a, b) = thread::join(
         rt,
-        || ask(rt, alloc, home, one, tells),
-        || ask(rt, alloc, home, two, tells),
+        || ask(rt, alloc, home, tells),
+        || ask(rt, alloc, home, tells),
     );
-    let (mut leads, pass) = a?;
-    let (mut joins, _other) = b?;
-    third(rt, alloc, home, pass, &mut leads, &mut joins)
+    let mut leads = a?;
+    let mut joins = b?;
+    third(rt, alloc, home, &mut leads, &mut joins)
 }
 
 /// The outcome that a leader was told that looked again, and the counts then.
-type Look = (Told, Book);
+type Looked = (Told, Book);
 
 /// A call of the local class, which lands where it leads.
 fn land_beside<L: Ledger>(
     alloc: Global,
     home: &mut Shared<L>,
-    pass: &mut Pass<L>,
     key: &Sample,
     tells: Told,
 ) {
-    match home.table.enter(pass, key, Class::Local) {
+    let Shared { table, pass, .. } = &mut *home;
+    match table.enter(pass, key, Class::Local) {
         Ok(Entered::Lead(lead)) => drop(look_and_land(alloc, home, lead, tells)),
         Ok(Entered::Hit(_)) => {}
         Ok(Entered::Joined(_)) => {}
@@ -201,15 +208,15 @@ fn land_beside<L: Ledger>(
 fn look_again<L: Ledger>(
     alloc: Global,
     home: &mut Shared<L>,
-    pass: &mut Pass<L>,
     tells: Told,
-) -> Option<Look> {
+) -> Option<Looked> {
     let key = sample(alloc, 8)?;
-    match home.table.enter(pass, &key, Class::Wide).ok()? {
+    let Shared { table, pass, .. } = &mut *home;
+    match table.enter(pass, &key, Class::Wide).ok()? {
         Entered::Hit(_) => None,
         Entered::Joined(_) => None,
         Entered::Lead(lead) => {
-            land_beside(alloc, home, pass, &key, tells);
+            land_beside(alloc, home, &key, tells);
             let mut receipt = look_and_land(alloc, home, lead, Err(Fault::Source(FAULT)));
             Some((told(&mut receipt), home.table.book()))
         }
@@ -224,12 +231,10 @@ fn look_and_meet<L: Ledger + Send + Sync, R: Threads + Wait + Clock + Sync>(
     bytes: u32,
     tells: Told,
     blank: Blank,
-) -> Option<(Look, Met)> {
+) -> Option<(Looked, Met)> {
     let mut home: Shared<L> = made(alloc, bytes, blank)?;
-    let mut one = home.pass()?;
-    let two = home.pass()?;
-    let look = look_again(alloc, &mut home, &mut one, tells)?;
-    let met = meet(rt, alloc, &Mutex::new(home), one, two, tells)?;
+    let look = look_again(alloc, &mut home, tells)?;
+    let met = meet(rt, alloc, &Mutex::new(home), tells)?;
     Some((look, met))
 }
 
@@ -277,7 +282,7 @@ const TWO: Book = Book {
 
 /// For how many bytes a home is; what one lands beside a leader that looks again, and the leader of two calls that meet; what the leader
 /// that looks again is told; and what comes of the calls that meet and of a third.
-static MEETINGS: [(u32, Told, Look, Met); 4] = [
+static MEETINGS: [(u32, Told, Looked, Met); 4] = [
     // The leader finds what landed meanwhile. The third call hits what two threads shared.
     (
         1000,
@@ -393,6 +398,75 @@ fn leader_that_looks_again_finds_values_alone_and_two_threads_share_one_load(rt:
         let seen = look_and_meet::<Brand, _>(&rt, rt.alloc(), *bytes, *tells, Blank::new(PARTS));
         assert!(rt; is_same(&seen, &Some((*look, *met))), "{line}");
     }
+}
+
+/// Follows a flight until it landed.
+fn follow<L: Ledger, R: Wait>(
+    rt: &R,
+    state: &Mutex<GroupState<Sample, Lax, L>>,
+    condvar: &FlightCondvar<L>,
+    joined: Follower<Sample, Lax, L>,
+) -> Receipt<Sample, Lax, L> {
+    let mut follower = joined;
+    let mut guard = state.lock(rt);
+    for _ in rt.forever() {
+        match follower.look(guard) {
+            Look::Landed(receipt) => return receipt,
+            Look::Open(sleeper) => {
+                let (woken, locked) = sleeper.sleep(rt, condvar);
+                follower = woken;
+                guard = locked;
+            }
+        }
+    }
+    unreachable!()
+}
+
+/// Which answer a call was given, the ticket of the flight, and its outcome.
+type Step = (&'static str, u64, Told);
+
+/// Ends a call: a leader lands a value, a follower waits for it.
+fn end<L: Ledger, R: Wait>(
+    rt: &R,
+    alloc: Global,
+    state: &Mutex<GroupState<Sample, Lax, L>>,
+    condvar: &FlightCondvar<L>,
+    answer: Lookup<Sample, Lax, L>,
+) -> Step {
+    let (name, mut receipt) = match answer {
+        Lookup::Hit(receipt) => ("hit", receipt),
+        Lookup::Joined(follower) => ("joined", follow(rt, state, condvar, follower)),
+        Lookup::Leads(lead) => {
+            let outcome = landing_of(alloc, Ok(42));
+            let completion = state.lock(rt).land(lead, outcome, Place::Main);
+            let woken = condvar.wake(completion.ticket());
+            ("leads", completion.into_receipt(woken).0)
+        }
+    };
+    (name, receipt.ticket(), told(&mut receipt))
+}
+
+/// Three calls of a group for one key: the first leads, and lands once the second has joined; then the third enters.
+fn enter_thrice<L: Ledger, R: Wait>(rt: &R, alloc: Global, blank: Blank) -> Option<[Step; 3]> {
+    let entries = NonZeroUsize::new(8)?;
+    let (table, pass, condvar) = Table::new(alloc, 1000, entries, PARTS, blank).ok()?;
+    let state: Mutex<GroupState<Sample, Lax, L>> =
+        Mutex::new(GroupState::new(table, pass, FullLedger::new()));
+    let mut pass = state.lock(rt).pass()?;
+    let key = sample(alloc, 7)?;
+    let led = state.lock(rt).enter(&mut pass, &key, Class::Local).ok()?;
+    let joined = state.lock(rt).enter(&mut pass, &key, Class::Local).ok();
+    let first = end(rt, alloc, &state, &condvar, led);
+    let second = end(rt, alloc, &state, &condvar, joined?);
+    let then = state.lock(rt).enter(&mut pass, &key, Class::Local).ok()?;
+    Some([first, second, end(rt, alloc, &state, &condvar, then)])
+}
+
+#[test]
+fn call_of_a_group_leads_the_next_follows_it_and_a_third_hits(rt: HostRuntime) {
+    let steps = enter_thrice::<Brand, _>(&rt, rt.alloc(), Blank::new(PARTS));
+    let want = [("leads", 1, Ok(42)), ("joined", 1, Ok(42)), ("hit", 1, Ok(42))];
+    assert!(rt; is_same(&steps, &Some(want)));
 }
 
 /// The ticket of a receipt, and what it tells.

@@ -1,6 +1,6 @@
 use Rattle.std.proofs.Common.{rules, subst, sym}
 use Rattle.iiif_group.specs.Beginning.{open_key, KnowsOf}
-use Rattle.iiif_group.specs.Code.{IsOf}
+use Rattle.iiif_singleflight.specs.Handles.{IsOf}
 use Rattle.iiif_group.proofs.Knowing.{knows_of_key}
 use Rattle.iiif_group.proofs.group.Group.complete.Goals as goal
 

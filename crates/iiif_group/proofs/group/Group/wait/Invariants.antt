@@ -1,6 +1,6 @@
 use Rattle.std.proofs.Common.{◌≡◌}
 use Rattle.iiif_outcome.specs.Views.{flight_cell, flight_key, flight_ticket}
-use Rattle.iiif_group.specs.Views.{followed}
+use Rattle.iiif_singleflight.specs.Handles.{followed}
 use Rattle.iiif_group.proofs.group.Group.wait.Given as goal
 
 abbrev pub invariant-loop : goal.invariant-loop

@@ -54,7 +54,7 @@ invariant_of-self-2 g c =
       counted = ap (λ b. b.gets) c.count.ensures ∙ (counted_gets c.in-Some.found c.is_err-fault.result c.args.place t.book ∙ t.counted);
     }
 
--- what a test leaves over was there
+-- a value that a test leaves over was there
 left_over : {T : Type 0} (Gives : T → Bool → Type 0) (was left : Option T) →
     MatchOption was (left ≡ None) (λ x. (b : Bool) × Gives x b × (left ≡ then_some b x)) → (x : T) → left ≡ Some x → was ≡ Some x
 left_over Gives None left none x is = cc (none, is)
