@@ -1,4 +1,4 @@
--- How a key finds its image.
+-- The image of a key, and its shape.
 use Rattle.std.specs.Prelude.{◌≡◌, IfErr, IfOk, Result}
 use Rattle.std.specs.Borrow.{Bor}
 use Rattle.iiif_source.specs.declared.Source as source
@@ -31,3 +31,17 @@ module _ {K V S R J : Type 0} {d : _} (keys : cache_key.Ghosts K V) (sources : s
     pub names : IfOk result (λ r. NamesPart node.pictures node.edge (keys.name_of key) (keys.edge_of key) (λ s. keys.fits_in s key))
     -- A fault tells why the key names none.
     pub refused : IfErr result (IsKeyFault node.pictures node.edge (keys.name_of key) (keys.edge_of key) (λ s. keys.fits_in s key))
+
+module _ {K V J : Type 0} (keys : cache_key.Ghosts K V) (node : system.Ghosts J) (key : K) where
+  -- The shape of the image of a key that names a part of its picture; or why the key names nothing.
+  pub record FindsShape (result : Result Shape Fault) : Type 0 where
+    -- The name has a picture of that shape.
+    pub known : IfOk result (HasPicture node.pictures (keys.name_of key))
+    -- A source may have this picture.
+    pub source : IfOk result (λ s. IsSource (named node.pictures (keys.name_of key)))
+    -- The key fits an image of that shape.
+    pub fits : IfOk result (λ s. keys.fits_in s key)
+    -- A fault tells why the key names none.
+    pub refused : IfErr result (IsKeyFault node.pictures node.edge (keys.name_of key) (keys.edge_of key) (λ s. keys.fits_in s key))
+    -- Else it names a part of the picture.
+    pub names : IfOk result (λ s. NamesPart node.pictures node.edge (keys.name_of key) (keys.edge_of key) (λ s. keys.fits_in s key))

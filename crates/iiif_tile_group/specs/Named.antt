@@ -1,4 +1,4 @@
--- What the names of a catalogue stand for.
+-- Pictures, faults and stability of a catalogue's names.
 use Rattle.std.specs.Prelude.{◌≡◌, ℕ, Bool, false, List, Option, None, Some, option_map}
 use Rattle.iiif_pixel.specs.Picture.{Picture, picture_of}
 use Rattle.iiif_source.specs.declared.ReadFault.{ReadFault}

@@ -1,4 +1,4 @@
--- What images and tiles are to those who hold them.
+-- Images that tiles are of.
 use Rattle.std.specs.Prelude.{List}
 use Rattle.iiif_tile_group.specs.Collection.{Item}
 use Rattle.iiif_tile_group.specs.declared.images.Images.{Images}

@@ -9,7 +9,7 @@ ghost use Rattle.iiif_keys.specs.Names.{IsSource};
 ghost use Rattle.iiif_keys.specs.Shapes.{shape_of};
 ghost use Rattle.iiif_outcome.specs.Outcomes.{is_given};
 ghost use Rattle.iiif_tile_group.specs.Collection.{Item, item_named};
-ghost use Rattle.iiif_tile_group.specs.Finding.{FindsImage};
+ghost use Rattle.iiif_tile_group.specs.Finding.{FindsImage, FindsShape};
 ghost use Rattle.iiif_tile_group.specs.Items.{item_of};
 ghost use Rattle.iiif_tile_group.specs.Named.{gave_of, picture_in, pictures_of, IsImageOf};
 
@@ -89,6 +89,14 @@ impl<R, S: Source<R> + Drop, J: System> Images<R, S, J> {
             return Err(Fault::BadKey);
         }
         Ok((entry, shape))
+    }
+
+    /// Finds the shape of the image of a key. It lends nothing of the image's source, and takes no memory.
+    pub fn shape_of<K: CacheKey>(&self, key: &K) -> Result<Shape, Fault>
+        ensures { FindsShape K.CacheKey.own J.System key.now result }
+    {
+        let (_entry, shape) = self.image_of(key)?;
+        Ok(shape)
     }
 
     /// Reads a tile from its image's source.

@@ -54,8 +54,8 @@ impl<R, S: Source<R> + Drop, J: System, N, T> Tiles<R, S, J, N, T> {
         &self.group
     }
 
-    /// Loads a tile: finds its image and reads it from the source. This is what a call that leads a flight runs; here it neither enters
-    /// the group nor is kept.
+    /// Loads a tile: finds its image and reads it from the source. A call that leads a flight runs this; here it neither enters the group
+    /// nor is kept.
     pub fn load(&self, rt: &R, key: &TileKey) -> Result<TileVal, Fault>
         ensures { Loads J.System key.now result }
     {
@@ -110,7 +110,7 @@ impl<R: Wait, S: Source<R> + Drop, J: System, N: Link<TileKey, J, R>, T: Gate<R>
     ) -> Result<Receipt<TileKey, J, TileCalls<J>>, Fault>
         ensures { Gets key.now pass.old pass.new result }
     {
-        let (_entry, shape) = self.images.image_of(key)?;
+        let shape = self.images.shape_of(key)?;
         match self.group.begin(rt, pass, key, &shape) {
             Ok(Begun::Known(receipt)) => Ok(receipt),
             Ok(Begun::Load(load)) => Ok(self.complete(rt, load, key)),
@@ -130,7 +130,7 @@ impl<R: Wait, S: Source<R> + Drop, J: System, N, T: Gate<R>> Tiles<R, S, J, N, T
     ) -> Result<Receipt<TileKey, J, TileCalls<J>>, Fault>
         ensures { GetsLocal key.now pass.old pass.new result }
     {
-        let (_entry, shape) = self.images.image_of(key)?;
+        let shape = self.images.shape_of(key)?;
         match self.group.begin_local(rt, pass, key, &shape) {
             Ok(Begun::Known(receipt)) => Ok(receipt),
             Ok(Begun::Load(load)) => Ok(self.complete(rt, load, key)),

@@ -140,7 +140,7 @@ fn begun<R: Net<Stream = TcpStream> + Wait + Clock, J: System>(
     key: &TileKey,
 ) -> Result<Receipt<TileKey, J, TileCalls<J>>, Fault> {
     let tiles = node.tiles();
-    let (_entry, shape) = tiles.images().image_of(key)?;
+    let shape = tiles.images().shape_of(key)?;
     if is_local {
         return match tiles.group().begin_local(rt, pass, key, &shape) {
             Ok(Begun::Known(receipt)) => Ok(receipt),
