@@ -1,4 +1,4 @@
--- The two kinds of keys, tiles and sums, as replies speak of them; and what is known of a node.
+-- The two kinds of keys, tiles and sums, as replies speak of them; and the node that replies.
 use Rattle.std.specs.Prelude.{ℕ, Bool, List, Option}
 use Rattle.iiif_pixel.specs.Geometry.{channels_of}
 use Rattle.iiif_source.specs.declared.ReadFault.{ReadFault}

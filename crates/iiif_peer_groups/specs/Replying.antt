@@ -1,4 +1,4 @@
--- What a node replies to an ask of another one.
+-- Replies of a node to an ask of another one.
 use Rattle.std.specs.Prelude.{◌≡◌, ◌⊎◌, ℕ, List, [], Option, IsSome, IsTrue}
 use Rattle.iiif_pixel.specs.declared.geometry.Depth.{Depth}
 use Rattle.iiif_pixel.specs.declared.geometry.Depth.TheVariants.{Eight, Sixteen}
@@ -55,7 +55,7 @@ module _ {K V : Type 0} (kind : Kind K V) (node : System) (version : Version) wh
   IsReplyTo bytes status value = ((status ≡ 0) × HasValue bytes value) ⊎
       ((f : Fault) × (status ≡ fault_number f) × (value ≡ []) × HasFault bytes f)
 
--- What may be replied to an ask, by its version, its group (1 for tiles, 2 for sums) and its key's bytes.
+-- Replies that may be sent to an ask, by its version, its group (1 for tiles, 2 for sums) and its key's bytes.
 abbrev pub MayReply : System → Version → ℕ → List ℕ → ℕ → List ℕ → Type 0
 MayReply node version group bytes status value =
     ((group ≡ 1) × IsReplyTo tile_kind node version bytes status value) ⊎ ((group ≡ 2) × IsReplyTo sum_kind node version bytes status value)

@@ -1,4 +1,4 @@
-//! What a node's groups reply to other nodes: the value of a key that names something, or why there is none, without another node.
+//! Replies of a node's groups to other nodes: the value of a key that names something, or why there is none, without another node.
 #![tactic(auto)]
 
 pub use peers::Peers;

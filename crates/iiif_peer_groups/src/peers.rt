@@ -1,6 +1,6 @@
 //! A node's groups as other nodes have them.
 
-ghost use Rattle.std.specs.Prelude.{◌≡◌, ◌≤◌, IfErr, IfOk, length};
+ghost use Rattle.std.specs.Prelude.{◌≡◌, ◌+◌, ◌≤◌, IfErr, IfOk, OnOk, length};
 ghost use Rattle.iiif_tile_group.specs.Faults.{IsKeyFault};
 ghost use Rattle.iiif_keys.specs.Blocks.{NamesPart};
 ghost use Rattle.iiif_keys.specs.Shapes.{HasPicture};
@@ -15,19 +15,20 @@ use iiif_peer_server::Answers;
 use iiif_peer_wire::{Ask, Version};
 use iiif_pixel::Depth;
 use iiif_source::Source;
-use iiif_sum_group::{Gate, Handle, Link, Passes, SumCalls, TileCalls};
+use iiif_sum_group::{Gate, Link, LocalHandle, Passes, SumCalls, TileCalls};
 use std::alloc::Global;
 use std::sync::Wait;
 use std::sync::ledger::Ledger;
 
-/// A node's groups as other nodes have them: each ask is answered by this node, and no other is asked for the key.
+/// A node's groups as other nodes have them: each ask is answered by this node, and no other is asked for the key. The handle has no way to
+/// ask one, and none to a source, so a value is the outcome of a call that entered its group.
 #[derive(Drop)]
 pub struct Peers<'a, R, S: Source<R>, J: System, N, T>
 where
     TileCalls<J>: Ledger,
     SumCalls<J>: Ledger,
 {
-    pub groups: Handle<'a, R, S, J, N, T>,
+    pub groups: LocalHandle<'a, R, S, J, N, T>,
 }
 
 impl<
@@ -47,15 +48,15 @@ impl<
         ensures refused { IfErr result (IsKeyFault J.pictures J.edge (K.name_of key.now) (K.edge_of key.now)
             (λ s. K.fits_in s key.now × Carries version s.depth)) }
     {
-        let (_entry, shape) = self.groups.images().image_of(key)?;
+        let shape = self.groups.shape_of(key)?;
         match (version, shape.depth) {
             (Version::One, Depth::Sixteen) => Err(Fault::BadKey),
             _ => Ok(shape),
         }
     }
 
-    /// The bytes of the tile that the bytes of a key name.
-    fn get_tile(
+    /// Gets the bytes of the tile that the bytes of a key name.
+    pub fn get_tile(
         &self,
         rt: &R,
         alloc: Global,
@@ -67,6 +68,8 @@ impl<
             v.items) }
         ensures within { IfOk result (λ v. length v.items ≤ value_limit) }
         ensures fault { IfErr result (HasFault tile_kind (system J.pictures J.edge J.gave J.stable J.honest) version bytes.now) }
+        // The value is that of a call that entered the group, once.
+        ensures counted { OnOk result (passes.new.tile.gets ≡ passes.old.tile.gets + 1) }
     {
         let key: TileKey = key_of(alloc, bytes)?;
         let shape = self.shape_of(version, &key)?;
@@ -74,8 +77,8 @@ impl<
         value_bytes(alloc, &key, &shape, receipt)
     }
 
-    /// The bytes of the sums that the bytes of a key name.
-    fn get_sums(
+    /// Gets the bytes of the sums that the bytes of a key name.
+    pub fn get_sums(
         &self,
         rt: &R,
         alloc: Global,
@@ -86,6 +89,8 @@ impl<
         ensures value { IfOk result (λ v. HasValue sum_kind (system J.pictures J.edge J.gave J.stable J.honest) version bytes.now v.items) }
         ensures within { IfOk result (λ v. length v.items ≤ value_limit) }
         ensures fault { IfErr result (HasFault sum_kind (system J.pictures J.edge J.gave J.stable J.honest) version bytes.now) }
+        // The value is that of a call that entered the group.
+        ensures counted { OnOk result (passes.old.sum.gets + 1 ≤ passes.new.sum.gets) }
     {
         let key: SumKey = key_of(alloc, bytes)?;
         let shape = self.shape_of(version, &key)?;

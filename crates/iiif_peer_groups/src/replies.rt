@@ -1,4 +1,4 @@
-//! Replies made of what flights ended with.
+//! Replies made of the outcomes of flights.
 
 ghost use Rattle.std.specs.Prelude.{◌≡◌, ◌≤◌, [], IfErr, IfOk, IfSome, IsTrue, MatchResult, length};
 ghost use Rattle.std.specs.Arc.{arc_value};

@@ -27,7 +27,7 @@ impl<
         // Read, so that it is known what the names stand for.
         let _images = self.images();
         let peers = Peers {
-            groups: self.groups(),
+            groups: self.groups().local(),
         };
         peers.answer(rt, alloc, passes, ask)
     }

@@ -1,4 +1,4 @@
--- What is counted for the parts of a block, and what holds of a copy.
+-- Counts of the calls for a block's parts, and facts of a copy.
 use Rattle.std.proofs.Common.{◌≡◌, ℕ, zero, suc, ◌+◌, ◌-◌, ◌*◌, ◌<◌, ◌≤◌, List, Result, Ok, Err, length, refl, subst, sym, arith}
 use Rattle.std.specs.Prelude.{◌^◌, IfErr, IfOk, OnOk}
 use Rattle.std.proofs.Math.Nat.{pow-succ'}

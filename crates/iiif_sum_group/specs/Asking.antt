@@ -1,4 +1,4 @@
--- What is made of what is asked for: words of private functions.
+-- Sums that are made of what is asked for: words of private functions.
 use Rattle.std.specs.Prelude.{◌≡◌, ℕ, ◌+◌, ◌-◌, ◌*◌, ◌^◌, ◌≤◌, IfErr, IfOk, IsTrue, List, OnErr, OnOk, Result, length}
 use Rattle.std.specs.Arc.{arc_value}
 use Rattle.std.specs.Result.{ForErr, ForOk}
@@ -18,13 +18,13 @@ use Rattle.iiif_group.specs.declared.passes.Passes.{Passes}
 use Rattle.iiif_sum_group.specs.declared.make_error.MakeError.{MakeError}
 use Rattle.iiif_sum_group.specs.declared.make_error.MakeError.TheVariants.{Part, Total}
 
--- what is told where a block has no value
+-- the fault that is told where a block has no value
 abbrev pub fault_in : MakeError → Fault
 fault_in (Part f) = f
 fault_in Total = NoMemory
 
 module _ {J : Type 0} where
-  -- what is asked for is counted
+  -- each call is counted
   abbrev pub Rises : Passes J → Passes J → Type 0
   Rises old new = (old.tile.gets ≤ new.tile.gets) × (old.sum.gets ≤ new.sum.gets)
 
@@ -37,7 +37,7 @@ module _ {J : Type 0} where
   HasAsManyParts old new = (new.tile.parts ≡ old.tile.parts) × (new.sum.parts ≡ old.sum.parts)
 
 module _ {J : Type 0} (level count : ℕ) (old new : Passes J) where
-  -- No more was asked for than so many parts of a block of this level, and what lies in these.
+  -- No more was asked for than so many parts of a block of this level, and the blocks and tiles that lie in these.
   pub record AsksSoMany : Type 0 where
     pub sums : new.sum.gets ≤ old.sum.gets + count * (2 * (1 + blocks_below (level - 1)))
     pub tiles : new.tile.gets ≤ old.tile.gets + count * (2 * 4 ^ (level - 1))
@@ -74,7 +74,7 @@ module _ {J : Type 0} (node : system.Ghosts J) (key : SumKey) (old new : Passes 
     pub parts : (new.tile.parts ≡ old.tile.parts) × (new.sum.parts ≡ old.sum.parts)
 
 module _ {J L : Type 0} {a b c : _} {d : system.Ghosts J} where
-  -- What a flight of the key ended with; or memory ran out. It is counted, and so are the calls for what it is made of.
+  -- The outcome of a flight of the key; or memory ran out. It is counted, and so are the calls for its parts.
   pub record Asks (key : SumKey) (old new : Passes J) (result : Result (Receipt SumKey J L SumVal a b c d) Fault) : Type 0 where
     pub outcome : IfOk result (KnowsSums key)
     pub risen : OnOk result (old.sum.gets + 1 ≤ new.sum.gets)

@@ -1,5 +1,5 @@
--- What a block's sums are made of, by the calls that passes count: at level 0 its tile, above it its quarters, and what these are made of
--- in turn. A call is counted once, or twice where its key's owner was asked in vain.
+-- Parts of a block's sums, by the calls that passes count: at level 0 its tile, above it its quarters, and the parts of these in turn. A
+-- call is counted once, or twice where its key's owner was asked in vain.
 use Rattle.std.specs.Prelude.{◌≡◌, ℕ, zero, suc, ◌+◌, ◌*◌, ◌^◌, ◌<◌, ◌≤◌, length}
 use Rattle.iiif_keys.specs.Meaning.{sums_below}
 use Rattle.iiif_keys.specs.declared.keys.SumKey.{SumKey}
@@ -28,9 +28,17 @@ module _ {J : Type 0} (key : SumKey) (old new : Passes J) where
     -- Above it each of its quarters that have a pixel of the rectangle.
     pub quarters : 0 < key.level → old.sum.gets + length (sums_below key) ≤ new.sum.gets
 
-  -- No more was asked for than the block itself and what has a lower rank.
+  -- No more was asked for than the block itself, by a call that asks its owner, and what has a lower rank.
   pub record AsksFor : Type 0 where
     -- The block, and the blocks below it.
     pub sums : new.sum.gets ≤ old.sum.gets + 2 * (1 + blocks_below key.level)
+    -- And the tiles that lie in it.
+    pub tiles : new.tile.gets ≤ old.tile.gets + 2 * 4 ^ key.level
+
+  -- No more was asked for than the block itself, by one call of this node alone, and what has a lower rank. A leader of the block's flight
+  -- has no call left for the block.
+  pub record AsksForLocal : Type 0 where
+    -- The block, counted once, and the blocks below it.
+    pub sums : new.sum.gets ≤ old.sum.gets + 1 + 2 * blocks_below key.level
     -- And the tiles that lie in it.
     pub tiles : new.tile.gets ≤ old.tile.gets + 2 * 4 ^ key.level

@@ -1,4 +1,4 @@
--- What the calls of sums do: their answers, and how they are counted.
+-- Calls of sums: their answers, and how they are counted.
 use Rattle.std.specs.Prelude.{◌≡◌, ◌+◌, ◌≤◌, IfErr, IfOk, IsTrue, OnErr, OnOk, Result}
 use Rattle.iiif_pixel.specs.Geometry.{channels_of}
 use Rattle.iiif_keys.specs.Blocks.{SumFitsIn}
@@ -11,7 +11,7 @@ use Rattle.iiif_outcome.specs.declared.receipt.Receipt.{Receipt}
 use Rattle.iiif_group.specs.Beginning.{BegunFor}
 use Rattle.iiif_group.specs.declared.begun.Begun.{Begun}
 use Rattle.iiif_tile_group.specs.Faults.{IsLoadFault}
-use Rattle.iiif_sum_group.specs.Below.{AsksBelow, AsksFor, AsksParts}
+use Rattle.iiif_sum_group.specs.Below.{AsksBelow, AsksFor, AsksForLocal, AsksParts}
 use Rattle.iiif_sum_group.specs.Outcomes.{IsRefused, KnowsSums, NamesBlock}
 use Rattle.iiif_group.specs.declared.passes.Passes.{Passes}
 
@@ -45,6 +45,25 @@ module _ {J L : Type 0} {a b c : _} {d : system.Ghosts J} where
     pub risen : OnOk result (old.sum.gets + 1 ≤ new.sum.gets)
     -- So were the calls for what the sums are made of: blocks of lower levels and tiles alone.
     pub below : AsksFor key old new
+    -- A refused call isn't counted.
+    pub refused : OnErr result ((new.tile.gets ≡ old.tile.gets) × (new.sum.gets ≡ old.sum.gets))
+    -- Tiles and sums are counted as they are got.
+    pub counted : (old.tile.gets ≤ new.tile.gets) × (old.sum.gets ≤ new.sum.gets)
+    -- The passes have as many parts as before.
+    pub parts : (new.tile.parts ≡ old.tile.parts) × (new.sum.parts ≡ old.sum.parts)
+    -- The key names a block.
+    pub names : IfOk result (λ r. NamesBlock d key)
+    -- A fault tells why the key names none; or memory ran out.
+    pub fault : IfErr result (IsRefused d key)
+
+  -- A call for sums whose owner isn't asked: the outcome of a flight of their key on this node.
+  pub record GetsLocal (key : SumKey) (old new : Passes J) (result : Result (Receipt SumKey J L SumVal a b c d) Fault) : Type 0 where
+    -- The receipt is of the key.
+    pub outcome : IfOk result (KnowsSums key)
+    -- The call entered, and was counted.
+    pub risen : OnOk result (old.sum.gets + 1 ≤ new.sum.gets)
+    -- It was counted once. So were the calls for what the sums are made of: blocks of lower levels and tiles alone.
+    pub below : AsksForLocal key old new
     -- A refused call isn't counted.
     pub refused : OnErr result ((new.tile.gets ≡ old.tile.gets) × (new.sum.gets ≡ old.sum.gets))
     -- Tiles and sums are counted as they are got.

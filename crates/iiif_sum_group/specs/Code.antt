@@ -20,7 +20,7 @@ use Rattle.iiif_keys.specs.declared.system.System as system
 use Rattle.iiif_keys.specs.declared.values.SumVal.{SumVal}
 use Rattle.iiif_sum_group.specs.Values.{AreValuesOf}
 
--- what was made, or that memory ran out
+-- a copy of the value; or memory ran out
 pub record Copies (value : SumVal) (result : Result SumVal Fault) : Type 0 where
   pub value_is : IfOk result (λ v. v ≡ value)
   pub fault : IfErr result (λ f. f ≡ NoMemory)
@@ -38,7 +38,7 @@ pub record CanTotal (s : Shape) (key : SumKey) (values : List (Arc SumVal Global
   pub block : IsOfBlock s.dim key
   pub channels : All (λ x. (sums_in x).channels ≡ channels_of s.kind) values
 
--- What the sums of values come to at the key's places.
+-- The total of the sums of values, at the key's places.
 pub record Totals (s : Shape) (key : SumKey) (values : List (Arc SumVal Global)) (result : Result SumVal Fault) : Type 0 where
   pub sums : IfOk result (λ v. v.sums ≡ fold merged (no_sums s.dim (channels_of s.kind) key) (map sums_in values))
   pub places : IfOk result (λ v. (v.sums.rect ≡ places_in s.dim key) × (v.sums.channels ≡ channels_of s.kind))
@@ -57,7 +57,7 @@ module _ {J : Type 0} (node : system.Ghosts J) (key : SumKey) (s : Shape) where
     pub level : key.level ≡ 0
     pub tile_is : tile ≡ tile_below key
 
-  -- The same of a level above it; its quarters are these.
+  -- The key names sums over a block of a level above 0; its quarters are these.
   pub record HasQuarters (quarters : List SumKey) : Type 0 where
     pub known : HasPicture node.pictures key.name s
     pub source : IsSource (named node.pictures key.name)
@@ -65,7 +65,7 @@ module _ {J : Type 0} (node : system.Ghosts J) (key : SumKey) (s : Shape) where
     pub level : 0 < key.level
     pub quarters_are : quarters ≡ sums_below key
 
-  -- The same; the values of its quarters are these.
+  -- The key names sums over a block of a level above 0; the values of its quarters are these.
   pub record HasValues (values : List (Arc SumVal Global)) : Type 0 where
     pub known : HasPicture node.pictures key.name s
     pub source : IsSource (named node.pictures key.name)

@@ -1,4 +1,4 @@
--- What the load of a block may ask for.
+-- Levels of the blocks that a load may ask for.
 use Rattle.std.specs.Prelude.{ℕ}
 use Rattle.iiif_sum_group.specs.declared.below.Below.{Below}
 

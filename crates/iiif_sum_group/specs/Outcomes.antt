@@ -1,4 +1,4 @@
--- What is answered for the key of sums, on a node.
+-- Answers for the key of sums, on a node.
 use Rattle.std.specs.Prelude.{◌≡◌, ◌<◌, Err, IfErr, IfOk, IfSome, IsTrue, Result}
 use Rattle.std.specs.Arc.{arc_value}
 use Rattle.std.specs.Result.{ForErr, ForOk}

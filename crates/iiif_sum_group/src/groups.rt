@@ -6,7 +6,7 @@ ghost use Rattle.iiif_keys.specs.Shapes.{HasPicture};
 ghost use Rattle.iiif_group.specs.Beginning.{open_key};
 ghost use Rattle.iiif_group.specs.Ending.{IsExact, TellsFault};
 ghost use Rattle.iiif_tile_group.specs.Views.{items_tiled};
-ghost use Rattle.iiif_sum_group.specs.Calls.{Gets, Loads};
+ghost use Rattle.iiif_sum_group.specs.Calls.{Gets, GetsLocal, Loads};
 ghost use Rattle.iiif_sum_group.specs.Asking.{Asks};
 ghost use Rattle.iiif_sum_group.specs.Code.{Copies, FitsShape};
 ghost use Rattle.iiif_sum_group.specs.Outcomes.{EndsWith, KnowsSums};
@@ -38,7 +38,7 @@ fn copy_sums(alloc: Global, value: &SumVal) -> Result<SumVal, Fault>
 }
 
 /// Tiles and sums of the images that a node has, shared by all that ask. J says what the names of the images stand for, and which
-/// ledgers count the calls; N is the link to other nodes, and T the gate of loads. Whoever has the groups can load; a `Handle` can't.
+/// ledgers count the calls; N is the link to other nodes, and T the gate of loads. The groups themselves can load; a `Handle` can't.
 #[derive(Drop)]
 pub struct Groups<R, S: Source<R>, J: System, N, T>
 where
@@ -82,13 +82,13 @@ impl<
     N: Link<TileKey, J, R> + Link<SumKey, J, R>,
     T: Gate<R>,
 > Groups<R, S, J, N, T> {
-    /// Loads the sums that a key names: makes them of the tile or the sums below, which are got of the groups. This is what a call that
-    /// leads a flight runs; here it neither enters the group nor is kept.
+    /// Loads the sums that a key names: makes them of the tile or the sums below, which are got of the groups. A call that leads a flight
+    /// runs this; here it neither enters the group nor is kept.
     #[tactic(auto, using(crate::proofs::SumLemmas::load_fault))]
     pub fn load(&self, rt: &R, passes: &mut Passes<J>, key: &SumKey) -> Result<SumVal, Fault>
         ensures { Loads J.System key.now passes.old passes.new result }
     {
-        let (_entry, shape) = self.tiles.images().image_of(key)?;
+        let shape = self.tiles.images().shape_of(key)?;
         match Below::new(self, key).make(rt, passes, &shape, key) {
             Ok(value) => copy_sums(self.alloc, &*value),
             Err(fault) => Err(fault),
@@ -105,7 +105,7 @@ impl<
     ) -> Result<Receipt<SumKey, J, SumCalls<J>>, Fault>
         ensures { Gets key.now passes.old passes.new result }
     {
-        let (_entry, shape) = self.tiles.images().image_of(key)?;
+        let shape = self.tiles.images().shape_of(key)?;
         self.enter(rt, passes, &shape, key)
     }
 
@@ -117,9 +117,9 @@ impl<
         passes: &mut Passes<J>,
         key: &SumKey,
     ) -> Result<Receipt<SumKey, J, SumCalls<J>>, Fault>
-        ensures { Gets key.now passes.old passes.new result }
+        ensures { GetsLocal key.now passes.old passes.new result }
     {
-        let (_entry, shape) = self.tiles.images().image_of(key)?;
+        let shape = self.tiles.images().shape_of(key)?;
         match self.sums.begin_local(rt, &mut passes.sum, key, &shape) {
             Ok(Begun::Known(receipt)) => Ok(receipt),
             Ok(Begun::Load(load)) => {

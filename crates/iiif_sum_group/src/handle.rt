@@ -1,23 +1,23 @@
 //! Handles to the groups of a node.
 
-ghost use Rattle.std.specs.Prelude.{◌≡◌, ◌<◌};
-ghost use Rattle.iiif_group.specs.Beginning.{open_key};
+ghost use Rattle.std.specs.Prelude.{◌≡◌, ◌<◌, IfOk};
+ghost use Rattle.iiif_keys.specs.Bytes.{sum_key_bytes};
+ghost use Rattle.iiif_group.specs.Beginning.{open_key, AsksOwner};
 ghost use Rattle.iiif_tile_group.specs.Calls as tile;
-ghost use Rattle.iiif_tile_group.specs.Views.{items_in};
 ghost use Rattle.iiif_sum_group.specs.Calls.{Begins, Gets};
 ghost use Rattle.iiif_sum_group.specs.Outcomes.{AreOfQuarters, Quarters, TellsAll};
 
 use crate::groups::Groups;
+use crate::local_handle::LocalHandle;
 use iiif_group::{Begun, Completed, Gate, Group, Link, Open, Passes, SumCalls, TileCalls};
 use iiif_keys::{Fault, SumKey, SumVal, System, TileKey};
 use iiif_singleflight::{Pass, Receipt};
 use iiif_source::Source;
-use iiif_tile_group::Images;
 use std::sync::ledger::Ledger;
 use std::sync::{Arc, Wait};
 
-/// A handle to the groups of a node. It has no `load`: whoever holds one gets a value by a call that enters its group, where it is
-/// counted, kept and shared.
+/// A handle to the groups of a node. It has no `load`, and lends no image with its source: its holder gets a value by a call that enters a
+/// group, where it is counted, kept and shared.
 #[derive(Drop)]
 pub struct Handle<'a, R, S: Source<R>, J: System, N, T>
 where
@@ -28,20 +28,14 @@ where
 }
 
 impl<'a, R, S: Source<R> + Drop, J: System, N, T> Handle<'a, R, S, J, N, T> {
-    ghost use Rattle.iiif_sum_group.specs.Views.{items_handled, items_served};
-
     /// Makes a handle to these groups.
-    pub fn new(groups: &'a Groups<R, S, J, N, T>) -> Handle<'a, R, S, J, N, T>
-        ensures { items_handled result ≡ items_served groups.now }
-    {
+    pub fn new(groups: &'a Groups<R, S, J, N, T>) -> Handle<'a, R, S, J, N, T> {
         Handle { groups }
     }
 
-    /// Lends the images.
-    pub fn images(&self) -> &'a Images<R, S, J>
-        ensures { items_in result.now ≡ items_handled self.now }
-    {
-        self.groups.tiles().images()
+    /// Returns a handle to the same groups by which no other node is asked for a key.
+    pub fn local(&self) -> LocalHandle<'a, R, S, J, N, T> {
+        LocalHandle::new(self.groups)
     }
 
     /// Lends the group of the tiles.
@@ -52,20 +46,6 @@ impl<'a, R, S: Source<R> + Drop, J: System, N, T> Handle<'a, R, S, J, N, T> {
     /// Lends the group of the sums.
     pub fn sums(&self) -> &'a Group<SumKey, J, SumCalls<J>, N, T> {
         self.groups.sums()
-    }
-}
-
-impl<'a, R: Wait, S: Source<R> + Drop, J: System, N, T: Gate<R>> Handle<'a, R, S, J, N, T> {
-    /// Gets a tile by this node alone: `Tiles::get_local`.
-    pub fn get_tile_local(
-        &self,
-        rt: &R,
-        pass: &mut Pass<TileCalls<J>>,
-        key: &TileKey,
-    ) -> Result<Receipt<TileKey, J, TileCalls<J>>, Fault>
-        ensures { tile.GetsLocal key.now pass.old pass.new result }
-    {
-        self.groups.tiles().get_local(rt, pass, key)
     }
 }
 
@@ -110,18 +90,6 @@ impl<
         self.groups.get(rt, passes, key)
     }
 
-    /// Gets sums by this node alone: `Groups::get_local`.
-    pub fn get_local(
-        &self,
-        rt: &R,
-        passes: &mut Passes<J>,
-        key: &SumKey,
-    ) -> Result<Receipt<SumKey, J, SumCalls<J>>, Fault>
-        ensures { Gets key.now passes.old passes.new result }
-    {
-        self.groups.get_local(rt, passes, key)
-    }
-
     /// Returns the keys of a block's quarters: `Groups::quarters`.
     pub fn quarters(&self, key: &SumKey) -> Result<Vec<SumKey>, Fault>
         requires level { 0 < key.now.level }
@@ -137,7 +105,9 @@ impl<
         passes: &mut Passes<J>,
         key: &SumKey,
     ) -> Result<Begun<SumKey, J, SumCalls<J>>, Fault>
-        ensures { Begins key.now passes.old passes.new result }
+        ensures begins { Begins key.now passes.old passes.new result }
+        // A load is owed once the owner was asked, if that is another node.
+        ensures asked { IfOk result (AsksOwner self.now.groups.now.sums (sum_key_bytes key.now)) }
     {
         self.groups.begin(rt, passes, key)
     }

@@ -3,16 +3,18 @@
 
 pub use groups::Groups;
 pub use handle::Handle;
-// What callers of the groups need of a group and of tiles.
+// Items of a group and of tiles that callers of the groups need.
 pub use iiif_group::{
     Begun, Cluster, Gate, Group, Kept, Link, NoGate, NoLink, Note, Open, Passes, StripedCondvar,
     SumCalls, TileCalls, take_outcome,
 };
 pub use iiif_tile_group::Tiles;
+pub use local_handle::LocalHandle;
 
 mod below;
 pub mod groups;
 pub mod handle;
+pub mod local_handle;
 mod make_error;
 mod making;
 pub mod parted;

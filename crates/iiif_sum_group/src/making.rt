@@ -1,4 +1,4 @@
-//! How sums are made of their parts.
+//! Making of sums of their parts.
 
 ghost use Rattle.std.specs.Prelude.{◌≡◌, ◌<◌, ◌∷◌, [], Err, IfErr, IfOk, IsTrue, OnOk, length};
 ghost use Rattle.iiif_keys.specs.Names.{named, IsSource};

@@ -1,8 +1,9 @@
 //! Sums whose parts the caller gets: a worker begins with a key, and finishes with the values of its parts.
 
-ghost use Rattle.std.specs.Prelude.{◌≡◌, ◌<◌};
+ghost use Rattle.std.specs.Prelude.{◌≡◌, ◌<◌, IfOk};
+ghost use Rattle.iiif_keys.specs.Bytes.{sum_key_bytes};
 ghost use Rattle.iiif_keys.specs.Meaning.{sums_below};
-ghost use Rattle.iiif_group.specs.Beginning.{open_key};
+ghost use Rattle.iiif_group.specs.Beginning.{open_key, AsksOwner};
 ghost use Rattle.iiif_sum_group.specs.Calls.{Begins};
 ghost use Rattle.iiif_sum_group.specs.Outcomes.{AreOfQuarters, EndsWith, Quarters, TellsAll};
 ghost use Rattle.iiif_sum_group.specs.Values.{MayBeSums};
@@ -29,7 +30,7 @@ impl<
     {
         // A law of keys.
         fitting_keys_have_parts();
-        let (_entry, _shape) = self.tiles.images().image_of(key)?;
+        let _shape = self.tiles.images().shape_of(key)?;
         match parts(self.alloc, key) {
             Ok(Parts::Sums(quarters)) => Ok(quarters),
             // That is level 0.
@@ -46,9 +47,11 @@ impl<
         passes: &mut Passes<J>,
         key: &SumKey,
     ) -> Result<Begun<SumKey, J, SumCalls<J>>, Fault>
-        ensures { Begins key.now passes.old passes.new result }
+        ensures begins { Begins key.now passes.old passes.new result }
+        // A load is owed once the owner was asked, if that is another node.
+        ensures asked { IfOk result (AsksOwner self.now.sums (sum_key_bytes key.now)) }
     {
-        let (_entry, shape) = self.tiles.images().image_of(key)?;
+        let shape = self.tiles.images().shape_of(key)?;
         match self.sums.begin(rt, &mut passes.sum, key, &shape) {
             Ok(begun) => Ok(begun),
             Err(_) => Err(Fault::NoMemory),
@@ -64,7 +67,7 @@ impl<
         // Laws of parts and of keys.
         parts_are_exact();
         SumKey::laws();
-        let Ok((_entry, shape)) = self.tiles.images().image_of(key) else {
+        let Ok(shape) = self.tiles.images().shape_of(key) else {
             return Err(Fault::NoMemory);
         };
         combine_parts::<J>(self.alloc, &shape, key, values)

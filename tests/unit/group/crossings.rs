@@ -56,7 +56,9 @@ impl<'a, 'b, R: Net<Stream = TcpStream> + Wait + Clock, J: System> Serve<R> for 
             return;
         };
         if let Ok(mut out) = stream.try_clone() {
-            let peers = Peers { groups: Handle::new(self.node) };
+            let peers = Peers {
+                groups: Handle::new(self.node).local(),
+            };
             serve_peer(rt, alloc, &peers, &mut passes, &mut stream, &mut out);
         }
         let Passes { tile, sum } = passes;
@@ -108,7 +110,9 @@ fn is_replied<R: Net<Stream = TcpStream> + Wait + Clock, J: System>(
         piece: 7,
         reads: 1_000_000,
     };
-    let peers = Peers { groups: Handle::new(node) };
+    let peers = Peers {
+        groups: Handle::new(node).local(),
+    };
     serve_peer(rt, alloc, &peers, passes, &mut reader, &mut out);
     is_same_text(out.as_slice(), replies)
 }

@@ -2,7 +2,7 @@
 
 use crate::fixtures::is_same;
 use crate::server::cases::{Ask, Input, Verb, Want};
-use crate::server::faulty::Faulty;
+use crate::server::faulty::{Faulty, Reads};
 use crate::server::meeting::Meeting;
 use crate::server::nodes::Seen;
 use crate::server::told::Parts;
@@ -21,7 +21,7 @@ use std::time::Clock;
 fn body_of<R: Threads + Wait + Clock + Sync, J: System + Send + Sync>(
     rt: &R,
     alloc: Global,
-    node: &Node<R, Faulty, J, NoLink, &Meeting>,
+    node: &Node<R, Faulty<'_>, J, NoLink, &Meeting>,
     passes: &mut [Passes<J>],
     target: &[u8],
     out: &mut FailingWriter,
@@ -44,7 +44,7 @@ fn method_of(alloc: Global, verb: Verb) -> Option<Method> {
 fn call_of<R: Threads + Wait + Clock + Sync, J: System + Send + Sync>(
     rt: &R,
     alloc: Global,
-    node: &Node<R, Faulty, J, NoLink, &Meeting>,
+    node: &Node<R, Faulty<'_>, J, NoLink, &Meeting>,
     passes: &mut [Passes<J>],
     verb: Verb,
     target: &[u8],
@@ -74,7 +74,7 @@ fn counted(bytes: usize, held: u64) -> Option<Result<Sent, Cut>> {
 fn stream_of<R: Threads + Wait + Clock + Sync, J: System + Send + Sync, V: Watch<R>>(
     rt: &R,
     alloc: Global,
-    node: &Node<R, Faulty, J, NoLink, &Meeting>,
+    node: &Node<R, Faulty<'_>, J, NoLink, &Meeting>,
     passes: &mut [Passes<J>],
     input: Input<'_>,
     out: &mut FailingWriter,
@@ -89,18 +89,16 @@ fn stream_of<R: Threads + Wait + Clock + Sync, J: System + Send + Sync, V: Watch
 }
 
 /// Mends the source of the image `a`.
-fn mend<R, J: System>(node: &Node<R, Faulty, J, NoLink, &Meeting>) -> Option<Result<Sent, Cut>> {
-    let entry = node.groups().images().catalogue().find("a")?;
-    entry.source.mend();
+fn mend(reads: &Reads) -> Option<Result<Sent, Cut>> {
+    reads.mend();
     counted(0, 0)
 }
 
 /// How many reads were made of the image `a`, as bytes.
-fn read<R, J: System>(node: &Node<R, Faulty, J, NoLink, &Meeting>) -> Option<Result<Sent, Cut>> {
-    let entry = node.groups().images().catalogue().find("a")?;
+fn read(reads: &Reads) -> Option<Result<Sent, Cut>> {
     Some(Ok(Sent {
         status: 0,
-        bytes: entry.source.reads(),
+        bytes: reads.made(),
         held: 0,
     }))
 }
@@ -108,7 +106,7 @@ fn read<R, J: System>(node: &Node<R, Faulty, J, NoLink, &Meeting>) -> Option<Res
 /// How many sums a node was asked for, as bytes, and how many it loaded, as what was held.
 fn booked<R: Wait, J: System>(
     rt: &R,
-    node: &Node<R, Faulty, J, NoLink, &Meeting>,
+    node: &Node<R, Faulty<'_>, J, NoLink, &Meeting>,
 ) -> Option<Result<Sent, Cut>> {
     let book = node.groups().sums().book(rt);
     Some(Ok(Sent {
@@ -121,7 +119,7 @@ fn booked<R: Wait, J: System>(
 /// Whether the books of a node's sums and tiles are these.
 fn has_books<R: Wait, J: System>(
     rt: &R,
-    node: &Node<R, Faulty, J, NoLink, &Meeting>,
+    node: &Node<R, Faulty<'_>, J, NoLink, &Meeting>,
     sums: Book,
     tiles: Book,
 ) -> bool {
@@ -136,7 +134,7 @@ fn has_books<R: Wait, J: System>(
 fn end_of<R: Threads + Wait + Clock + Sync, J: System + Send + Sync>(
     rt: &R,
     alloc: Global,
-    node: &Node<R, Faulty, J, NoLink, &Meeting>,
+    node: &Node<R, Faulty<'_>, J, NoLink, &Meeting>,
     passes: &mut [Passes<J>],
     seen: &Seen,
     ask: Ask<'_>,
@@ -147,10 +145,10 @@ fn end_of<R: Threads + Wait + Clock + Sync, J: System + Send + Sync>(
         Ask::Call(verb, target) => call_of(rt, alloc, node, passes, verb, target, out),
         Ask::Stream(input) => stream_of(rt, alloc, node, passes, input, out, &()),
         Ask::Watched(input) => stream_of(rt, alloc, node, passes, input, out, &seen.told),
-        Ask::Mend => mend(node),
+        Ask::Mend => mend(&seen.reads),
         Ask::Sums => booked(rt, node),
         Ask::Books(sums, tiles) => counted(0, u64::from(has_books(rt, node, sums, tiles))),
-        Ask::Reads => read(node),
+        Ask::Reads => read(&seen.reads),
         Ask::Kept => counted(node.most_kept(rt) as usize, 0),
         Ask::Told(counts) => counted(0, u64::from(is_same(&seen.told.counts(), &counts))),
         Ask::Alone => counted(0, u64::from(seen.gate.alone.load(Ordering::SeqCst))),
@@ -161,7 +159,7 @@ fn end_of<R: Threads + Wait + Clock + Sync, J: System + Send + Sync>(
 pub(crate) fn is_right<R: Threads + Wait + Clock + Sync, J: System + Send + Sync>(
     rt: &R,
     alloc: Global,
-    node: &Node<R, Faulty, J, NoLink, &Meeting>,
+    node: &Node<R, Faulty<'_>, J, NoLink, &Meeting>,
     passes: &mut [Passes<J>],
     seen: &Seen,
     ask: Ask<'_>,

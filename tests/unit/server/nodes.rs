@@ -4,7 +4,7 @@ use crate::fixtures::note;
 use crate::server::calls::is_right;
 use crate::server::cases::{Case, Setup, Table, Variant};
 use crate::server::every::{Pictured, asks};
-use crate::server::faulty::Faulty;
+use crate::server::faulty::{Faulty, Reads};
 use crate::server::meeting::{Meeting, stock};
 use crate::server::told::Told;
 use iiif_canonical::Limits;
@@ -20,9 +20,10 @@ use std::sync::ledger::Blank;
 use std::thread::Threads;
 use std::time::Clock;
 
-/// The gates of a node, and what is told of its answers.
+/// The reads of a node's file, its gates, and counts of its answers.
 #[derive(Drop)]
 pub(crate) struct Seen {
+    pub reads: Reads,
     /// At which tiles meet.
     pub gate: Meeting,
     /// The gate at which sums pass, which don't wait for one another.
@@ -51,14 +52,20 @@ fn file(alloc: Global, setup: &Setup<'_>) -> Option<Vec<u8>> {
 }
 
 /// The images of a node.
-fn images<R>(rt: &R, alloc: Global, setup: &Setup<'_>) -> Option<Catalogue<R, Faulty>> {
+fn images<'a, R>(
+    rt: &R,
+    alloc: Global,
+    setup: &Setup<'_>,
+    reads: &'a Reads,
+) -> Option<Catalogue<R, Faulty<'a>>> {
     let name = String::from_str(alloc, setup.name).ok()?;
     let source = MemSource::new(file(alloc, setup)?);
     let Ok(layout) = open(rt, alloc, &source) else {
         return None;
     };
     let mut catalogue = Catalogue::new(alloc);
-    match catalogue.add(name, Faulty::new(source, setup.k, setup.once), layout) {
+    let faulty = Faulty::new(source, setup.k, setup.once, reads);
+    match catalogue.add(name, faulty, layout) {
         Ok(()) => Some(catalogue),
         Err(_) => None,
     }
@@ -68,7 +75,7 @@ fn images<R>(rt: &R, alloc: Global, setup: &Setup<'_>) -> Option<Catalogue<R, Fa
 fn right_by_workers<R: Threads + Wait + Clock + Sync, J: System + Send + Sync>(
     rt: &R,
     alloc: Global,
-    node: &Node<R, Faulty, J, NoLink, &Meeting>,
+    node: &Node<R, Faulty<'_>, J, NoLink, &Meeting>,
     workers: u32,
     seen: &Seen,
     cases: &[Case<'_>],
@@ -93,14 +100,14 @@ fn right_by<R: Threads + Wait + Clock + Sync, J: System + Send + Sync>(
     rt: &R,
     alloc: Global,
     config: Config,
-    images: Catalogue<R, Faulty>,
+    images: Catalogue<R, Faulty<'_>>,
     tiles: Stock<NoLink, &Meeting>,
     sums: Stock<NoLink, &Meeting>,
     workers: u32,
     seen: &Seen,
     cases: &[Case<'_>],
 ) -> Option<usize> {
-    let node = Node::<R, Faulty, J, NoLink, &Meeting>::new(
+    let node = Node::<R, Faulty<'_>, J, NoLink, &Meeting>::new(
         alloc, config, images, tiles, sums,
     ).ok()?;
     right_by_workers(rt, alloc, &node, workers, seen, cases)
@@ -115,7 +122,7 @@ fn right_of<R: Threads + Wait + Clock + Sync>(
     cases: &[Case<'_>],
 ) -> Option<usize> {
     let config = settings(alloc, setup)?;
-    let images = images(rt, alloc, setup)?;
+    let images = images(rt, alloc, setup, &seen.reads)?;
     let tiles = stock(alloc, setup.bytes, &seen.gate, Blank::new(PARTS))?;
     let sums = stock(alloc, setup.bytes, &seen.open, Blank::new(PARTS))?;
     right_by::<R, Brand>(
@@ -138,6 +145,7 @@ fn first_wrong<R: Threads + Wait + Clock + Sync + AllocGlobal>(
     cases: &[Case<'_>],
 ) -> Option<usize> {
     let seen = Seen {
+        reads: Reads::new(),
         gate: Meeting::new(setup.turns),
         open: Meeting::new(0),
         told: Told::new(),

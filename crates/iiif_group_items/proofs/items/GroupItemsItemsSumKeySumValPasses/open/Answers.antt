@@ -15,7 +15,7 @@ returns-in-Ok-Load-clause-opened g c =
     let exact = c.parts_are_exact.ensures in
     let above : 0 < key.level = omega (arith, c.if-key-lt-SHARED.false) in
     let are = c.in_ok-parts.ensures.parts in
-    let begun = rw c.in-Ok-Load.field-0-is at c.in-Ok-Load.ensures.begun in
+    let begun = rw c.in-Ok-Load.field-0-is at c.in-Ok-Load.ensures.begins.begun in
     let P = IsPart (SumIsNamed g.J.System.pictures g.J.System.edge) (λ (q : SumKey). q.level)
     (λ (q : SumKey) (f : Fault). IsTrue (is_given (g.J.System.gave q.name) f)) key in
     let all : All P (sums_below key) =

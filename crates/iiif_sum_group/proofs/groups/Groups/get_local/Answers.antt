@@ -15,6 +15,6 @@ returns-in-Ok-Load g c =
       refused = tt;
       counted = (made.counted.0, omega (arith, entered.counted, made.counted.1));
       parts = (made.parts.0, made.parts.1 ∙ entered.parts);
-      names = c.in_ok-_entry.ensures.names;
+      names = c.in_ok-shape.ensures.names;
       fault = tt;
     }
