@@ -1,4 +1,4 @@
--- What the groups of a node answer for keys.
+-- Answers of the groups of a node for keys.
 use Rattle.std.specs.Prelude.{ℕ, Bool, List, IsTrue}
 use Rattle.iiif_pixel.specs.Geometry.{channels_of}
 use Rattle.iiif_source.specs.declared.ReadFault.{ReadFault}

@@ -69,7 +69,8 @@ impl<
 
     ghost is_open = { λ _ o k parts. parts ≡ [] };
 
-    ghost asked = { λ _ old new. old.tile.gets + 1 ≤ new.tile.gets };
+    // By one call, which asks the tile's owner at most once.
+    ghost asked = { λ _ old new. (old.tile.gets + 1 ≤ new.tile.gets) × (new.tile.gets ≤ old.tile.gets + 2) };
 
     fn open(
         &self,

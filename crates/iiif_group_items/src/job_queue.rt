@@ -1,4 +1,4 @@
-//! How many images are made ready at a time.
+//! Queues of images that are to be made ready, so many at a time.
 
 ghost use Rattle.std.specs.Prelude.{◌≡◌};
 
@@ -103,8 +103,8 @@ impl Queue {
     }
 }
 
-/// Who may make the blocks of an image now. Without it each of 64 viewers has its workers, who take the processors from one another.
-/// Heavy jobs have a queue of their own: light ones don't wait for them, and of many whose viewers go away few are begun.
+/// Admission of images to the making of their blocks. Without it each of 64 viewers has its workers, which take the processors from one
+/// another. Heavy jobs have a queue of their own: light ones don't wait for them, and of many whose viewers go away few are begun.
 #[derive(Drop)]
 pub struct JobQueue {
     light: Queue,

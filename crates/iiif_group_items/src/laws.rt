@@ -1,4 +1,4 @@
-//! What holds of the values that groups answer. The functions compute nothing: their contracts are the laws, for the crates above.
+//! Laws of the values that groups answer. The functions compute nothing: their contracts are the laws, for the crates above.
 
 ghost use Rattle.std.specs.Prelude.{◌≡◌, IsTrue};
 ghost use Rattle.iiif_keys.specs.Names.{named, IsSource};

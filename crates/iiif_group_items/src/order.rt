@@ -30,7 +30,7 @@ impl Called {
     }
 }
 
-/// Where a job stands among those that wait. None where it isn't among them.
+/// Returns the place of a job among those that wait. None where it isn't among them.
 fn place_of(waiting: &[Waiting], number: u64) -> Option<usize>
     ensures some { IfSome result (λ place. WaitsAt waiting.now place number) }
     ensures none { IfNone result (WaitsNot waiting.now number) }
@@ -43,7 +43,7 @@ fn place_of(waiting: &[Waiting], number: u64) -> Option<usize>
     None
 }
 
-/// Where the job stands that is let in next. None where none waits.
+/// Returns the place of the job that is let in next. None where none waits.
 fn next_place(waiting: &[Waiting]) -> Option<usize>
     ensures some { IfSome result (λ place. IsNext waiting.now place) }
     ensures none { IfNone result (waiting.now ≡ []) }
@@ -67,7 +67,7 @@ pub(crate) struct Order {
     most: u64,
     /// How many came. It is the number of the next.
     came: u64,
-    /// Those that wait, in the order in which they came.
+    /// The jobs that wait, in the order in which they came.
     waiting: Vec<Waiting>,
     /// How many were let in, and haven't left.
     at_work: u64,
