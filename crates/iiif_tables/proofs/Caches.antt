@@ -74,7 +74,7 @@ module _ {K V : Type 0} where
         | false ↦ record { limit = more.limit ∙ one.limit; room = more.room ∙ one.room }
       ]
 
--- What a cache keeps but for its bytes, while an entry is put.
+-- Invariants of a cache but for its bytes, while an entry is put.
 pub record IsOrdered {K V : Type 0} (eq : K → K → Bool) (c : Cache K V) : Type 0 where
   pub single : (q : K) → entries_of eq q c.main + entries_of eq q c.hot ≤ 1
   pub room : 0 < c.room

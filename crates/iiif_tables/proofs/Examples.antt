@@ -54,7 +54,7 @@ tenth_is_kept = refl
 ninth_is_not : length (storing nat_eq bytes Peer 9 3 (record { value = 1; ticket = 3 }) (two [])).hot ≡ 0
 ninth_is_not = refl
 
--- what the book of a table counts after three calls, of which one led
+-- the book of a table after three calls, of which one led
 abbrev book : Book
 book = record {
   gets = 3;

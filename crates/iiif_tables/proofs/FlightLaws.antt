@@ -1,4 +1,4 @@
--- What a table keeps.
+-- Invariants of a table.
 use Rattle.std.proofs.Common.{◌≡◌, ℕ, ◌-◌, ◌<◌, ◌%◌, Bool, true, false, Option, Some, None, refl, arith}
 use Rattle.std.specs.Prelude.{if◌then◌else◌, ◌==◌}
 use Rattle.iiif_tables.specs.Cache.{Each, Kept, Cache, main_side, hot_side, kept_for, put}

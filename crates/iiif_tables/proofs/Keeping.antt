@@ -1,4 +1,4 @@
--- What every cache keeps: limits, single entries, and what holds of each entry.
+-- Invariants of every cache: limits, single entries, and what holds of each entry.
 use Rattle.std.proofs.Common.{◌≡◌, ℕ, zero, suc, ◌-◌, Bool, true, false, length, Option, Some, None, refl, ◌∙◌, is_some}
 use Rattle.std.specs.Prelude.{nat_lt, if◌then◌else◌}
 use Rattle.std.specs.Map.{lookup}
@@ -43,7 +43,7 @@ module _ {K V : Type 0} (P : K × Kept V → Type 0) where
     found_in c h e None at is = each_lookup P (eq k) c.hot h.hot e is
     found_in c h e (Some f) at is = each_lookup P (eq k) c.main h.main e (at ∙ is)
 
-    -- what a look-up finds
+    -- the entry that a look-up finds
     pub each_kept_for : (c : Cache K V) → Each P c → (e : Kept V) → kept_for eq k c ≡ Some e → (q : K) × (eq k q ≡ true) × P (q, e)
     each_kept_for c h e is = found_in c h e (lookup (eq k) c.main) refl is
 

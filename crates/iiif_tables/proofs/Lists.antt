@@ -43,7 +43,7 @@ module _ {K Y : Type 0} (test : K → Bool) where
     | false ↦ λ t h. found_passes es e h
   ]) refl h
 
-  -- what is found by its key is the value of the entry that is
+  -- a value that is found by its key is that of the entry that is
   pub lookup-entry : (es : List (K × Y)) → is_some (lookup test es) ≡ is_some (lookup_entry test es)
   lookup-entry [] = refl
   lookup-entry (e ∷ es) = elim (test e.0) as (λ y.
@@ -92,7 +92,7 @@ module _ {K Y : Type 0} (P : K × Y → Type 0) (test : K → Bool) where
       AllByRecursion P (option_map_or (λ e. e ∷ remove_entry test es) (lookup_entry test es) es)
   each_fronted es h = fronting es h (lookup_entry test es) refl
 
-  -- what a look-up finds is the value of an entry, with a key that passes
+  -- a look-up finds the value of an entry, with a key that passes
   pub each_lookup : (es : List (K × Y)) → AllByRecursion P es → (y : Y) → lookup test es ≡ Some y → (k : K) × (test k ≡ true) × P (k, y)
   each_lookup [] h y at = cc
   each_lookup (f ∷ es) h y at = (elim (test f.0) as

@@ -1,4 +1,4 @@
--- What entering, looking again and landing do to the cache, to the places of flights and to their tickets.
+-- Effects of entering, looking again and landing on the cache, on the places of flights and on their tickets.
 use Rattle.std.proofs.Common.{◌≡◌, ℕ, ◌+◌, ◌<◌, ◌≤◌, ◌%◌, Bool, true, false, Option, Some, None, refl, sym, ap, ◌∙◌, arith}
 use Rattle.std.specs.Prelude.{◌&&◌, if◌then◌else◌, ◌==◌}
 use Rattle.std.specs.Cmp.{IsEquivalence}
@@ -79,7 +79,7 @@ module _ {K : Type 0} (eq : K → K → Bool) where
         | false ↦ λ h. refl
       ]) h
 
-  -- what holds of the new flight and of each old one holds of each
+  -- each has P where the new flight and each old one have it
   pub flight_anywhere : (P : Option Flight → Type 0) (class : Class) (k : K) (f : Option Flight) (flights : Class → K → Option Flight)
       (c : Class) (q : K)
       → P f → P (flights c q) → P (with_flight eq class k f flights c q)
@@ -284,7 +284,7 @@ module _ {K : Type 0} (eq : K → K → Bool) (laws : IsEquivalence eq) where
       → (same_class class c && eq k q) ≡ true → with_flight eq class k f flights c q ≡ f
   flight_here class k f flights c q h = let both = and_parts (same_class class c) (eq k q) h in rw (both.0) (rw (both.1) refl)
 
-  -- what is at one place with a third is at one place with each other
+  -- two that are at one place with a third are at one place
   places_meet : (class : Class) (k : K) (c d : Class) (p q : K) → (same_class class c && eq k p) ≡ true →
       (same_class class d && eq k q) ≡ true
       → (same_class c d && eq p q) ≡ true
@@ -299,7 +299,7 @@ module _ {K : Type 0} (eq : K → K → Bool) (laws : IsEquivalence eq) where
   Differ m = (c d : Class) (p q : K) (f g : Flight) → m c p ≡ Some f → m d q ≡ Some g → f.ticket ≡ g.ticket →
       (same_class c d && eq p q) ≡ true
 
-  -- what stands at a place has a ticket that stands at no other
+  -- the ticket of a flight at a place stands at no other
   abbrev Own : Class → K → Option Flight → (Class → K → Option Flight) → Type 0
   Own class k o m = (f : Flight) → o ≡ Some f → (d : Class) (q : K) (g : Flight) → m d q ≡ Some g → f.ticket ≡ g.ticket →
       (same_class class d && eq k q) ≡ true

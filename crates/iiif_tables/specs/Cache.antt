@@ -1,4 +1,4 @@
--- What is kept: what a look-up, a put and an eviction do to two lists with one limit in bytes.
+-- The cache: a look-up, a put and an eviction, in two lists with one limit in bytes.
 use Rattle.std.specs.Prelude.{◌≡◌, ℕ, zero, suc, ◌+◌, ◌-◌, ◌/◌, ◌<◌, ◌≤◌, Bool, nat_lt, List, [], ◌∷◌, length, take, slice_get, sum_by}
 use Rattle.std.specs.Prelude.{count_by, Option, is_some, if◌then◌else◌}
 use Rattle.std.specs.List.{AllByRecursion}
@@ -39,7 +39,7 @@ abbrev pub added : {X : Type 0} → ℕ → X → List X → List X
 added room e es = e ∷ take (room - 1) es
 
 module _ {K V : Type 0} (eq : K → K → Bool) (k : K) where
-  -- what is kept for the key: in main, else in hot
+  -- the value that is kept for the key: in main, else in hot
   abbrev pub kept_for : Cache K V → Option (Kept V)
   kept_for c = option_or (lookup (eq k) c.main) (lookup (eq k) c.hot)
 
@@ -116,7 +116,7 @@ module _ {K V : Type 0} (size : K → V → ℕ) where
   unfoldable pub put : (K → K → Bool) → Side → K → Kept V → Cache K V → Cache K V
   put eq side k e c = if is_too_big k e.value c then c else shrink (placed eq k side e c)
 
-  -- what holds of every cache
+  -- laws of every cache
   pub record IsCache (eq : K → K → Bool) (c : Cache K V) : Type 0 where
     -- no key has more than one entry, in both lists together
     pub single : (q : K) → entries_of eq q c.main + entries_of eq q c.hot ≤ 1

@@ -18,7 +18,7 @@ pub record Flight : Type 0 where
   pub ticket : ℕ
   pub found : Bool
 
--- What is kept; the flight that is open for each class and key, if there is one; how many are open; and what was counted.
+-- The cache; the flight that is open for each class and key, if there is one; how many are open; and the counts.
 pub record Table (K V : Type 0) : Type 0 where
   pub cache : Cache K V
   pub flights : Class → K → Option Flight
@@ -50,13 +50,14 @@ abbrev pub is_found : Option Flight → Bool
 is_found None = false
 is_found (Some f) = f.found
 
--- What a call that enters meets: a kept value; an open flight, of this ticket; or neither, and then it leads a flight of this ticket.
+-- The state that a call meets as it enters: a kept value; an open flight, of this ticket; or neither, and then it leads a flight of this
+-- ticket.
 pub data Entered (V : Type 0) : Type 0 where
   hit : Kept V → Entered V
   joined : ℕ → Entered V
   led : ℕ → Entered V
 
--- what is kept comes first, then a flight that is open
+-- a kept value comes first, then a flight that is open
 abbrev pub met : {V : Type 0} → Option (Kept V) → Option Flight → ℕ → Entered V
 met (Some e) flight next = hit e
 met None (Some f) next = joined f.ticket
@@ -77,7 +78,7 @@ counting false (Some v) Peer b = record b { landed = b.landed + 1; loads = b.loa
 
 module _ {K V : Type 0} (eq : K → K → Bool) where
   module _ (class : Class) (k : K) where
-    -- What a call for the key in the class meets. A new flight has the ticket of `leads` with one added.
+    -- The state that a call for the key in the class meets. A new flight has the ticket of `leads` with one added.
     abbrev pub meets : Table K V → Entered V
     meets t = met (kept_for eq k t.cache) (t.flights class k) (t.book.leads + 1)
 
@@ -98,7 +99,7 @@ module _ {K V : Type 0} (eq : K → K → Bool) where
     unfoldable pub enter : Table K V → Entered V × Table K V
     enter t = (meets t, entering (meets t) t)
 
-    -- what the leader of the open flight with this ticket finds, where this is kept by now, and the table after it
+    -- the value that the leader of the open flight with this ticket finds, where this is kept by now, and the table after it
     abbrev pub looking : ℕ → Option (Kept V) → Table K V → Option V × Table K V
     looking n None t = (None, t)
     looking n (Some e) t = (
@@ -145,7 +146,7 @@ module _ {K V : Type 0} (eq : K → K → Bool) where
         then landing keep class k n value place (counting (is_found (t.flights class k)) value place t.book) t
         else t
 
--- What holds of the counts where so many flights are open.
+-- Laws of the counts where so many flights are open.
 pub record IsBook (in_flight : ℕ) (b : Book) : Type 0 where
   pub gets : b.gets ≡ b.hits + b.joins + b.leads
   pub landed : b.landed ≡ b.again_hits + b.loads

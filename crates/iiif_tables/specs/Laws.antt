@@ -1,4 +1,4 @@
--- What putting, evicting, entering, looking again and landing keep.
+-- Invariants of putting, evicting, entering, looking again and landing.
 use Rattle.std.specs.Prelude.{◌≡◌, ℕ, ◌+◌, ◌<◌, ◌≤◌, Bool, true, false, ◌&&◌, Option, Some, None, IsTrue, option_map, if◌then◌else◌}
 use Rattle.iiif_tables.specs.Cache.{Kept, Cache, Side, Each, IsCache, SameLimits, empty_cache, evict, kept_for, put, touch, without}
 use Rattle.iiif_tables.specs.Flights.{Entered, hit, joined, led, Flight, IsBook, Table, again, empty_book, empty_table, enter, has_ticket}
@@ -6,7 +6,7 @@ use Rattle.iiif_tables.specs.Flights.{land, same_class}
 use Rattle.iiif_tables.specs.declared.table.Class.{Class}
 use Rattle.iiif_tables.specs.declared.table.Place.{Place}
 
--- What is a cache stays one: no key has two entries, the bytes are within the limit, and the lists within their room.
+-- A cache stays one: no key has two entries, the bytes are within the limit, and the lists within their room.
 module _ {K V : Type 0} (eq : K → K → Bool) (size : K → V → ℕ) where
   -- the new cache is one where the old is, with the same limits
   pub record StaysCache (old new : Cache K V) : Type 0 where
@@ -56,7 +56,7 @@ module _ {K V : Type 0} (test : K × Kept V → Bool) where
     abbrev pub AgainKeepsEach : Type 0
     AgainKeepsEach = (class : Class) (k : K) (n : ℕ) (t : Table K V) → AllPass t.cache → AllPass (again eq class k n t).1.cache
 
-    -- what a look-up finds passes, with the key of its entry, which is equal
+    -- the value that a look-up finds passes, with the key of its entry, which is equal
     abbrev pub FoundPasses : Type 0
     FoundPasses = (k : K) (c : Cache K V) → AllPass c → (e : Kept V) → kept_for eq k c ≡ Some e → (q : K) × (eq k q ≡ true) ×
         IsTrue (test (q, e))
@@ -96,7 +96,7 @@ LandLeavesBook {K} {V} eq size = (keep : Bool) (class : Class) (k : K) (n : ℕ)
 
 -- A flight opens, stays and closes at its own place, which is its class and key.
 
--- what stands at a place after a call that met this: the flight that it leads, else what stood there
+-- the flight at a place after a call that met this: the one that it leads, else the one that stood there
 abbrev pub opened : {V : Type 0} → Entered V → Option Flight → Option Flight
 opened (hit e) f = f
 opened (joined n) f = f
@@ -106,7 +106,7 @@ opened (led n) f = Some (record { ticket = n; found = false })
 abbrev pub as_found : Flight → Flight
 as_found f = record f { found = true }
 
--- what stands there after its leader has looked again and found this: the flight, found where a value is kept
+-- the flight there after its leader has looked again and found this: found where a value is kept
 abbrev pub marked : {V : Type 0} → Option V → Option Flight → Option Flight
 marked None f = f
 marked (Some v) f = option_map as_found f

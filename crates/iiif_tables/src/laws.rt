@@ -1,4 +1,4 @@
-//! What holds of every table. The functions compute nothing: their contracts are the laws, for the crates above.
+//! Laws of every table. The functions compute nothing: their contracts are the laws, for the crates above.
 
 ghost use Rattle.std.specs.Prelude.{ℕ, Bool};
 ghost use Rattle.iiif_tables.specs.Cache.{Kept};

@@ -1,4 +1,4 @@
-//! What the table of a cache and its flights counts, and the words by which it is called.
+//! Counts of the table of a cache and its flights, and the words by which it is called.
 
 /// How a flight gets its value.
 #[derive(Clone, Copy, Debug, PartialEq, Eq)]
@@ -25,20 +25,20 @@ pub enum Place {
 pub struct Book {
     /// The calls that entered.
     pub gets: u64,
-    /// Those that met a kept value.
+    /// Calls that met a kept value.
     pub hits: u64,
-    /// Those that joined an open flight.
+    /// Calls that joined an open flight.
     pub joins: u64,
-    /// Those that opened a flight, and lead it.
+    /// Calls that opened a flight, and lead it.
     pub leads: u64,
     /// The flights that landed with a value that their leader found by looking again.
     pub again_hits: u64,
     /// The other flights that landed.
     pub loads: u64,
-    /// Those that landed with a peer's value.
+    /// Loads that landed with a peer's value.
     pub peer: u64,
     /// The flights that landed.
     pub landed: u64,
-    /// Those that landed with a fault.
+    /// Flights that landed with a fault.
     pub faults: u64,
 }
