@@ -34,14 +34,15 @@ fn sample(alloc: Global, fails: Failing) -> Option<Shown> {
     of_samples(alloc, dim, Samples::Eight(samples), fails)
 }
 
-/// The bytes of an image that was sent whole, how many samples and sums were held at most, and how many were kept beside these; else the
-/// bytes before its end, and the fault of a band that could not be made. Without one the writer failed.
-type End = Result<[u64; 3], (u64, Option<Fault>)>;
+/// The bytes of an image that was sent whole, how many samples and sums were held at most, how many were kept beside these, and how many
+/// bytes were buffered at most; else the bytes before its end, and the fault of a band that could not be made. Without one the writer
+/// failed.
+type End = Result<[u64; 4], (u64, Option<Fault>)>;
 
 /// The end of an image, in a form that can be printed.
 fn end_of(end: Result<Delivered, Stopped>) -> End {
     match end {
-        Ok(sent) => Ok([sent.bytes, sent.held, sent.kept]),
+        Ok(sent) => Ok([sent.bytes, sent.held, sent.kept, sent.buffered]),
         Err(Stopped::Writer(count)) => Err((count, None)),
         Err(Stopped::Load(count, fault)) => Err((count, Some(fault))),
     }
@@ -212,7 +213,7 @@ fn each_block_is_asked_for_once_and_bands_above_a_fault_are_sent(rt: HostRuntime
     assert!(rt; alone.is_some());
     if let Some(alone) = &alone {
         assert!(rt; is_same(&(alone.bytes.len() as u64), &LEN));
-        assert!(rt; is_same(&alone.end, &Ok([LEN, 2 * 7, KEPT])));
+        assert!(rt; is_same(&alone.end, &Ok([LEN, 2 * 7, KEPT, LEN])));
         assert!(rt; are_same(&rt, rt.alloc(), alone));
         assert!(rt; end_above(&rt, rt.alloc(), alone));
     }
@@ -354,8 +355,8 @@ type Lone = (Failing, Turn, u64, End, &'static [u8]);
 /// As it stands, turned, and where the tile fails. Of a band that is turned its four samples are held twice, and of a tile as it stands all
 /// sixteen are kept.
 static LONE: [Lone; 4] = [
-    (Failing::Nothing, UPRIGHT, 1, Ok([190, 4, 16]), &STEPS),
-    (Failing::Nothing, QUARTER, 4, Ok([190, 8, 0]), &TURNED),
+    (Failing::Nothing, UPRIGHT, 1, Ok([190, 4, 16, 174]), &STEPS),
+    (Failing::Nothing, QUARTER, 4, Ok([190, 8, 0, 190]), &TURNED),
     (
         Failing::FirstRow,
         UPRIGHT,
@@ -429,7 +430,7 @@ fn is_large_sent<R: Threads + Wait + Sync>(rt: &R, alloc: Global, rows: &[u8]) -
     match large(rt, alloc, samples) {
         Some(answer) => {
             is_same(&answer.asks, &1)
-                && is_same(&answer.end, &Ok([90_174, 300, 90_000]))
+                && is_same(&answer.end, &Ok([90_174, 300, 90_000, 174]))
                 && is_same(&answer.bytes.as_slice().get(174..).unwrap_or(&[]), &rows)
         }
         None => is_missing(),
@@ -442,5 +443,123 @@ fn a_large_tile_is_sent_whole(rt: HostRuntime) {
     assert!(rt; rows.is_ok());
     if let Ok(rows) = &rows {
         assert!(rt; is_large_sent(&rt, rt.alloc(), rows));
+    }
+}
+
+/// A band's blocks have 4 pixels each, in 20, 30 where the band has a place in three rows of them: 80 and 120. Those of all seven bands.
+const WORK: u64 = 5 * 80 + 2 * 120;
+
+/// The queue is told the work of each band, and every block is asked for while its job is in the queue.
+#[test]
+fn blocks_are_asked_for_in_the_queue_which_is_told_their_work(rt: HostRuntime) {
+    let shown = sample(rt.alloc(), Failing::Nothing);
+    assert!(rt; shown.is_some());
+    if let Some(shown) = &shown {
+        let answer = scaled(&rt, rt.alloc(), shown, 2);
+        assert!(rt; answer.is_some());
+        assert!(rt; is_same(&shown.unqueued.load(Ordering::SeqCst), &0));
+        assert!(rt; is_same(&shown.work.load(Ordering::SeqCst), &WORK));
+    }
+}
+
+/// A picture of 60 by 20 places, scaled to 21 by 7: in rows of 30 blocks, of which a band has a place in two or three, so in 60 or 90. Of
+/// 90 only those stay that were kept: the third band has rows 2, 3 and 4 of the blocks, and row 2 stays, so the fourth asks for 4 and 5.
+const ASKS: u64 = 60 + 30 + 60 + 60 + 60 + 60 + 30;
+
+#[test]
+fn of_a_band_of_more_than_64_blocks_those_stay_that_were_kept(rt: HostRuntime) {
+    let mut samples = Vec::new(rt.alloc());
+    for place in 0..1_200u32 {
+        assert!(rt; samples.push((place % 200) as u8).is_ok());
+    }
+    let dim = Dim { w: 60, h: 20 };
+    let shown = of_samples(rt.alloc(), dim, Samples::Eight(samples), Failing::Nothing);
+    assert!(rt; shown.is_some());
+    if let Some(shown) = &shown {
+        let job = job(rt.alloc(), shown.shape, 2, Dim { w: 21, h: 7 }, UPRIGHT, 1);
+        assert!(rt; job.is_some());
+        if let Some(job) = &job {
+            for workers in [1, 4] {
+                match send(&rt, rt.alloc(), shown, job, workers) {
+                    Some(answer) => assert!(rt; is_same(&answer.asks, &ASKS), "{workers} workers"),
+                    None => assert!(rt; false),
+                }
+            }
+        }
+    }
+}
+
+/// Four tiles, copied in bands of a row: four samples are held at once, and each tile is asked for in two bands.
+#[test]
+fn a_band_of_tiles_that_are_copied_is_held_once(rt: HostRuntime) {
+    let shown = tens(rt.alloc(), Failing::Nothing);
+    assert!(rt; shown.is_some());
+    if let Some(shown) = &shown {
+        let job = job(rt.alloc(), shown.shape, 2, shown.shape.dim, UPRIGHT, 1);
+        assert!(rt; job.is_some());
+        if let Some(job) = &job {
+            match send(&rt, rt.alloc(), shown, job, 1) {
+                Some(answer) => {
+                    assert!(rt; is_same(&answer.asks, &8));
+                    assert!(rt; is_same(&answer.end, &Ok([190, 4, 0, 190])));
+                }
+                None => assert!(rt; false),
+            }
+        }
+    }
+}
+
+/// A writer that takes all, and notes the longest text that it was given.
+#[derive(Drop)]
+struct Longest {
+    bytes: u64,
+}
+
+impl Write for Longest {
+    fn write(&mut self, bytes: &[u8]) -> io::Result<usize> {
+        self.bytes = self.bytes.max(bytes.len() as u64);
+        Ok(bytes.len())
+    }
+
+    fn flush(&mut self) -> io::Result<()> {
+        Ok(())
+    }
+}
+
+impl Outlet for Longest {
+    ghost fails = { λ _ _. Unit {0} };
+
+    fn put(&mut self, bytes: &[u8]) -> io::Result<usize> {
+        self.write(bytes)
+    }
+
+    fn is_gone(&self) -> bool {
+        false
+    }
+}
+
+/// The heads have 174 bytes and a row 300: 218 rows are the first that come to 64 KiB.
+const BUFFERED: u64 = 174 + 218 * 300;
+
+#[test]
+fn rows_go_out_once_they_come_to_64_kib_and_no_more_are_told(rt: HostRuntime) {
+    let Ok(samples) = many(rt.alloc()) else {
+        assert!(rt; false);
+        return;
+    };
+    let dim = Dim { w: 300, h: 300 };
+    let shown = of_samples(rt.alloc(), dim, Samples::Eight(samples), Failing::Nothing);
+    assert!(rt; shown.is_some());
+    if let Some(shown) = &shown {
+        let job = job(rt.alloc(), shown.shape, 150, dim, UPRIGHT, 1);
+        assert!(rt; job.is_some());
+        if let Some(job) = &job {
+            let mut out = Longest { bytes: 0 };
+            match send_to(&rt, rt.alloc(), shown, job, 1, &mut out) {
+                Some((end, _)) => assert!(rt; is_same(&end, &Ok([90_174, 300, 0, BUFFERED]))),
+                None => assert!(rt; false),
+            }
+            assert!(rt; is_same(&out.bytes, &BUFFERED));
+        }
     }
 }

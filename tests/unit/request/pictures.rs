@@ -66,6 +66,10 @@ pub struct Shown {
     pub queued: AtomicU64,
     /// How many turns were queued for.
     pub turns: AtomicU64,
+    /// The work of all jobs that were enqueued.
+    pub work: AtomicU64,
+    /// How many blocks were asked for while no job was in the queue.
+    pub unqueued: AtomicU64,
     alloc: Global,
 }
 
@@ -146,6 +150,9 @@ impl<R> Items<SumKey, SumVal, u64, R> for Shown {
     ) -> Result<Opened<SumKey, SumVal, ()>, Fault> {
         *pass = pass.wrapping_add(1);
         let before = self.asks.fetch_add(1, Ordering::SeqCst);
+        if self.queued.load(Ordering::SeqCst) == 0 {
+            self.unqueued.fetch_add(1, Ordering::SeqCst);
+        }
         if self.fails.has_block(key, before) {
             return Err(Fault::UnknownName);
         }
@@ -196,6 +203,7 @@ impl<R> Admission<R> for Shown {
     fn enqueue(&self, _rt: &R, work: u64) -> Queued {
         self.queued.fetch_add(1, Ordering::SeqCst);
         self.turns.fetch_add(1, Ordering::SeqCst);
+        self.work.fetch_add(work, Ordering::SeqCst);
         Queued { work }
     }
 
@@ -239,6 +247,8 @@ pub(crate) fn of_samples(
                 asks: AtomicU64::new(0),
                 queued: AtomicU64::new(0),
                 turns: AtomicU64::new(0),
+                work: AtomicU64::new(0),
+                unqueued: AtomicU64::new(0),
                 alloc,
             })
         }
