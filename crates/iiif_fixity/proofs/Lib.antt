@@ -1,0 +1,6 @@
+pub mod Checking
+pub mod Folders
+pub mod Lawful
+pub mod Lines
+pub mod Listing
+pub mod WholeFiles

@@ -1,0 +1,6 @@
+pub mod Bags
+pub mod Collisions
+pub mod Faults
+pub mod Laws
+pub mod Manifests
+pub mod Pieces
