@@ -1,6 +1,7 @@
 //! Tests of groups, which call only what is public: calls that share a load, are held at a gate, noted there or asked of the key's
 //! owner (`iiif_group`); sums made of their parts (`iiif_sum_group`); what a node replies to others, crossed nodes, cut replies and
-//! peers that lie (`iiif_peer_groups`); and links over TCP and over memory (`iiif_peer_link`).
+//! peers that lie (`iiif_peer_groups`); links over TCP and over memory (`iiif_peer_link`); and a device that turns bits
+//! (`iiif_witnesses`).
 
 mod acts;
 mod bars;
@@ -11,6 +12,7 @@ mod crossings;
 mod cut_tests;
 mod doorways;
 mod ends;
+mod flipping_tests;
 mod keys;
 mod link_memory_tests;
 mod link_tcp_tests;

@@ -1,2 +1,3 @@
+mod FlipLemmas
 mod StableLemmas
 mod ShownLemmas

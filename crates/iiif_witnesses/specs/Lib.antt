@@ -1,3 +1,4 @@
 pub mod Values
 pub mod Code
 pub mod Flags
+pub mod Flips
