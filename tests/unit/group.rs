@@ -23,6 +23,7 @@ mod nodes;
 mod note_tests;
 mod owner_tests;
 mod peers;
+mod refusal_tests;
 mod run_tests;
 mod runs;
 mod scenes;

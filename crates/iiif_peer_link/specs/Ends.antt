@@ -1,8 +1,7 @@
 -- How an ask ended, as the link takes it in.
-use Rattle.std.specs.Prelude.{ℕ, Bool, true, false, Option, Some, None, Result, Ok, Err, if◌then◌else◌}
+use Rattle.std.specs.Prelude.{Bool, Option, Some, None, Result, Ok, Err, if◌then◌else◌}
 use Rattle.iiif_breaker.specs.declared.outcome.Outcome.{Outcome}
 use Rattle.iiif_breaker.specs.declared.outcome.Outcome.TheVariants.{Answered, Refused as Refuses, Failed, TimedOut}
-use Rattle.iiif_peer_wire.specs.declared.fault.WireFault.{WireFault}
 use Rattle.iiif_peer_wire.specs.declared.fault.WireFault.TheVariants.{Magic, Short, Long, Key, Digest, Status, Io, NoMemory}
 use Rattle.iiif_group.specs.declared.link.LinkFault.{LinkFault}
 use Rattle.iiif_group.specs.declared.link.LinkFault.TheVariants.{Wire, Refused, Value}

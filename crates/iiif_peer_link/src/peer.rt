@@ -1,6 +1,7 @@
 //! Other nodes, as links reach them.
 
 use crate::health::{Health, Turn};
+use crate::refusals::Refusals;
 use iiif_breaker::{Change, Durations};
 use iiif_log::{Log, Moment, PeerTurn, Turn as Told};
 pub use std::alloc::AllocError as NoMemory;
@@ -17,6 +18,7 @@ pub struct Peer {
     address: String,
     limit: Duration,
     health: Health,
+    refusals: Refusals,
 }
 
 /// How long a look may take at most, in milliseconds.
@@ -58,6 +60,7 @@ impl Peer {
             address: String::from_str(alloc, address)?,
             limit,
             health: Health::new(alloc),
+            refusals: Refusals::new(alloc),
         })
     }
 
@@ -74,6 +77,11 @@ impl Peer {
     /// What is known of it.
     pub fn health(&self) -> &Health {
         &self.health
+    }
+
+    /// The images for which it refused asks.
+    pub fn refusals(&self) -> &Refusals {
+        &self.refusals
     }
 
     /// Looks its address up, without a limit of time. Where nothing is found, what was found before stays.
