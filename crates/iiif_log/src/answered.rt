@@ -1,11 +1,11 @@
-//! What a line tells of an answer.
+//! An answer, as a line tells it.
 
 use crate::moment::Moment;
 
 /// Why an answer was cut off.
 #[derive(Clone, Copy, Debug, PartialEq, Eq)]
 pub enum CutCause {
-    /// Who read it closed or reset the connection.
+    /// Its reader closed or reset the connection.
     Viewer,
     /// Nothing of it was taken for as long as is waited.
     Slow,

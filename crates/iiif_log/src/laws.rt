@@ -1,4 +1,4 @@
-//! What holds of every line and of every queue. The functions compute nothing: their contracts are the laws.
+//! Laws of every line and of every queue. The functions compute nothing: their contracts are the laws.
 
 ghost use Rattle.iiif_log.specs.Laws.{CountsAddUp, EscapesDiffer, LinesAreLines, LinesTellAnswers, QueuesKeepLines};
 ghost use Rattle.iiif_log.specs.PeerLines.{PeerLinesAreLines, PeerLinesTellTurns};

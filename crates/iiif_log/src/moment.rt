@@ -29,7 +29,7 @@ impl Moment {
         }
     }
 
-    /// What the clock reads. Where it can't be read, or stands before 1970, that is the beginning of 1970.
+    /// The moment that the clock reads. Where it can't be read, or stands before 1970, that is the beginning of 1970.
     pub fn now<R: Clock>(rt: &R) -> Moment {
         let Ok(now) = SystemTime::now(rt) else {
             return Moment::of_millis(0);

@@ -10,7 +10,7 @@ use std::alloc::Global;
 /// Room for a line of the usual length.
 const USUAL_LENGTH: usize = 64;
 
-/// What became of a link to another node.
+/// A turn of a link to another node.
 #[derive(Clone, Copy, PartialEq, Eq)]
 pub enum Turn {
     /// The node failed, and is left alone from now on.
@@ -19,7 +19,7 @@ pub enum Turn {
     AskedAgain,
 }
 
-/// What a line tells of a link.
+/// A link's turn, as a line tells it.
 #[derive(Clone, Copy)]
 pub struct PeerTurn<'a> {
     /// When it turned.

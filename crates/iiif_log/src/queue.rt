@@ -20,7 +20,7 @@ pub struct Line {
     pub text: Vec<u8>,
 }
 
-/// What is taken of a queue.
+/// The outcome of taking a line of a queue.
 #[derive(Drop)]
 pub enum Taken {
     Line(Line),

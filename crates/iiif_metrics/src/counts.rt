@@ -1,4 +1,4 @@
-//! What is counted of answers and connections.
+//! Counts of answers and connections.
 
 ghost use Rattle.std.specs.Prelude.{◌≡◌, ◌+◌, ◌-◌};
 ghost use Rattle.iiif_io.specs.Counting.{capped};
@@ -17,7 +17,7 @@ pub enum Visitors {
     Viewers,
     /// Other nodes.
     Peers,
-    /// Who asks for the statistics.
+    /// Readers of the statistics.
     Statistics,
 }
 
@@ -172,7 +172,7 @@ impl Tally {
         self.counts.lock(rt).count_refused(visitors);
     }
 
-    /// What was counted so far.
+    /// The counts so far.
     pub fn counts<R: Wait>(&self, rt: &R) -> Counts {
         *self.counts.lock(rt)
     }

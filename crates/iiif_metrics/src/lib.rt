@@ -1,4 +1,4 @@
-//! What a server counted, as Prometheus reads it, and which of its services go on; and the answers to who asks for these.
+//! The counts of a server, as Prometheus reads them, and which of its services go on; and the answers to who asks for these.
 #![tactic(auto)]
 
 pub use counts::{Counts, STATUSES, Tally, Visitors};

@@ -1,4 +1,4 @@
-//! What is told of the links to other nodes.
+//! The links to other nodes, as they are told.
 
 ghost use Rattle.std.specs.Prelude.{◌≡◌, ◌++◌, ◌∷◌, [], OnOk, IfOk, map, string_bytes};
 ghost use Rattle.std.specs.List.{flat_map};

@@ -1,11 +1,11 @@
-//! What is told.
+//! The numbers that are told.
 
 use crate::counts::Counts;
 use crate::health::Services;
 use iiif_breaker::{Asks, Durations, State};
 use iiif_tables::Book;
 
-/// What a cache and its flights counted, and what is kept.
+/// The counts of a cache and its flights, and of the values that are kept.
 #[derive(Clone, Copy)]
 pub struct CacheMetrics {
     pub book: Book,
@@ -33,7 +33,7 @@ pub struct ImageMetrics {
     pub unfit: u64,
 }
 
-/// What a server counted since it was started, and what it holds.
+/// The counts of a server since it was started, and of what it holds.
 #[derive(Clone, Copy)]
 pub struct Metrics {
     pub tiles: CacheMetrics,
@@ -54,7 +54,7 @@ pub struct LinkMetrics {
     pub state: State,
 }
 
-/// What is told of all links: of each by itself, and how long the asks of all took. One histogram serves for all, since one for each link
+/// The numbers of all links: of each by itself, and how long the asks of all took. One histogram serves for all, since one for each link
 /// would be eleven lines a node, and a node that is slow is found by how its asks end.
 #[derive(Drop)]
 pub struct PeerMetrics {

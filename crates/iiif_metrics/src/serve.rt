@@ -32,10 +32,10 @@ const ALLOW: Field<'static> = Field {
 
 /// Where the counters are read, as by a server of which they are told.
 pub trait Measure<R> {
-    /// What was counted so far.
+    /// The counts so far.
     fn measure(&self, rt: &R) -> Metrics;
 
-    /// What was counted so far of asks of other nodes. The only error is lack of memory.
+    /// The counts so far of asks of other nodes. The only error is lack of memory.
     fn peers(&self, rt: &R, alloc: Global) -> Result<PeerMetrics, NoMemory>;
 
     /// Which services go on.

@@ -46,7 +46,7 @@ pub struct Sample<'a> {
     pub value: u64,
 }
 
-/// What only grows.
+/// A number that only grows.
 fn counter(name: &'static str, help: &'static str, value: u64) -> Row<'static>
     ensures { (front : List ℕ) → row_family front result ≡ single (front ++ name.now) help.now MetricKind.Counter value }
 {
@@ -59,7 +59,7 @@ fn counter(name: &'static str, help: &'static str, value: u64) -> Row<'static>
     }
 }
 
-/// What grows and falls.
+/// A number that grows and falls.
 fn gauge(name: &'static str, help: &'static str, value: u64) -> Row<'static>
     ensures { (front : List ℕ) → row_family front result ≡ single (front ++ name.now) help.now MetricKind.Gauge value }
 {
@@ -143,7 +143,7 @@ fn push_rows(text: &mut String, front: &str, rows: &[Row<'_>]) -> Result<(), NoM
     Ok(())
 }
 
-/// What a cache and its flights counted, and what is kept.
+/// The counts of a cache and its flights, and of the values that are kept.
 fn cache_rows(cache: &CacheMetrics) -> [Row<'static>; 11]
     ensures { (front : List ℕ) → map (row_family front) result ≡ cache_families front cache.now }
 {
@@ -211,7 +211,7 @@ fn image_rows(images: &ImageMetrics) -> [Row<'static>; 2]
     ]
 }
 
-/// What was counted of answers, whatever their status, and what was kept beside one of them.
+/// The counts of answers, whatever their status, and of what was kept beside one of them.
 fn server_rows(counts: &Counts, kept: u64) -> [Row<'static>; 2]
     ensures { (front : List ℕ) → map (row_family front) result ≡ server_families front counts.now kept }
 {
@@ -281,7 +281,7 @@ fn cut_samples_in(cut: &[u64; 5]) -> [Sample<'static>; 5]
     ]
 }
 
-/// What was counted at each listener.
+/// The counts of each listener.
 fn listener_samples_in(counts: &[u64; 3]) -> [Sample<'static>; 3]
     ensures { map sample_view result ≡ listener_samples counts.now }
 {

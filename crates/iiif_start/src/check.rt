@@ -17,7 +17,7 @@ use std::io;
 use std::io::ErrorKind;
 use std::sync::{Arc, Wait};
 
-/// What an image is, and whether its file would be held in memory.
+/// An image's shape, and whether its file would be held in memory.
 #[derive(Clone, Copy)]
 pub struct Found {
     pub shape: Shape,

@@ -1,4 +1,4 @@
-//! What is held in memory of the images' files.
+//! The images' files that are held in memory.
 
 ghost use Rattle.std.specs.Prelude.{◌≡◌, option_map};
 ghost use Rattle.iiif_tile_group.specs.Items.{item_of};
@@ -51,7 +51,7 @@ impl Held {
     }
 }
 
-/// What is held of an image, where there is one.
+/// The part of an image that is held, where there is one.
 fn held_of<R: Opens + Wait>(entry: Option<&ImageEntry<R, Stored<R>>>) -> Held
     ensures images { result.images ≡ count_in (option_map (λ e. item_of e.now) entry.entry) }
     ensures bytes { result.bytes ≡ bytes_in (option_map (λ e. item_of e.now) entry.entry) }

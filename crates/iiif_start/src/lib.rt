@@ -1,5 +1,5 @@
-//! What a start of the program comes to: the images that its words name, opened or checked, and what is said where words or an image
-//! are at fault.
+//! A start of the program: the images that its words name, opened or checked, and the lines that are said where words or an image are at
+//! fault.
 #![tactic(auto)]
 
 pub use check::{Checked, Found};

@@ -45,7 +45,7 @@ where
     }
 }
 
-/// What stands between a folder's path and a file's name.
+/// The text between a folder's path and a file's name.
 fn separator_behind(folder: &str) -> &'static str
     ensures { (result.now ≡ []) ⊎ (result.now ≡ codes "/") }
 {

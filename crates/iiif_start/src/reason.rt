@@ -30,7 +30,7 @@ pub enum Reason {
 }
 
 impl Reason {
-    /// What the system said.
+    /// The reason that the system gave.
     pub fn of(error: &Error) -> Reason {
         match error.kind() {
             ErrorKind::NotFound => Reason::Missing,
@@ -42,7 +42,7 @@ impl Reason {
     }
 }
 
-/// What the system said by a code that has no kind.
+/// The reason of a code that has no kind.
 fn of_code(code: Option<i32>) -> Reason {
     match code {
         Some(EIO) => Reason::Device,

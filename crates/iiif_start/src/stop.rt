@@ -46,7 +46,7 @@ impl<'a> Stop<'a> {
     }
 }
 
-/// What to do where the system doesn't let the program listen.
+/// The remedy where the system doesn't let the program listen.
 fn remedy_of_listening(reason: Reason) -> &'static str {
     match reason {
         Reason::Taken => {

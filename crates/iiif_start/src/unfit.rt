@@ -18,9 +18,9 @@ use std::io::Write;
 /// Why an image can't be served.
 #[derive(Clone, Copy, Debug, PartialEq, Eq)]
 pub enum Unfit {
-    /// Its file can't be opened: what the system said.
+    /// Its file can't be opened, for the system's reason.
     Closed(Reason),
-    /// What stands under its path is no plain file.
+    /// Under its path there is no plain file.
     NotPlain,
     /// Its file isn't one that is read.
     Refused(OpenFault),
@@ -37,7 +37,7 @@ impl Unfit {
         }
     }
 
-    /// What to do about it: one line, without its end.
+    /// The remedy: one line, without its end.
     pub fn remedy(&self) -> &'static str
         ensures one_line { list_all is_line_byte result.now ≡ true }
         ensures some { 0 < length result.now }
@@ -58,7 +58,7 @@ impl Unfit {
     }
 }
 
-/// What to do about a file that the system doesn't open: one line, without its end.
+/// The remedy for a file that the system doesn't open: one line, without its end.
 fn remedy_of_closed(reason: Reason) -> &'static str
     ensures one_line { list_all is_line_byte result.now ≡ true }
     ensures some { 0 < length result.now }

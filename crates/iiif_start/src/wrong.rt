@@ -1,4 +1,4 @@
-//! What is said of words that are at fault.
+//! Lines about words that are at fault.
 
 ghost use Rattle.std.specs.Prelude.{◌≡◌, ◌<◌, true, length};
 ghost use Rattle.std.specs.List.{list_all};
@@ -12,7 +12,7 @@ use iiif_image_list::FolderImage;
 use std::io;
 use std::io::Write;
 
-/// What to do about words that are at fault: one line, without its end. Of a list of images its own line says more.
+/// The remedy for words that are at fault: one line, without its end. Of a list of images its own line says more.
 fn remedy(fault: LineFault) -> &'static str
     ensures one_line { list_all is_line_byte result.now ≡ true }
     ensures some { 0 < length result.now }
@@ -55,7 +55,7 @@ fn remedy(fault: LineFault) -> &'static str
     }
 }
 
-/// What the list of images was read of: its file, the folder, and the images of this.
+/// The origins of the list of images: its file, the folder, and the images of this.
 #[derive(Clone, Copy)]
 pub struct Origins<'a> {
     pub list: Option<&'a str>,
