@@ -11,10 +11,10 @@ import time
 BASE = "http://localhost/iiif"
 
 
-def picture(path, width, height, channels=1, edge=256, bits=8):
-    """A TIFF file of black tiles that all stand at one place: small, however large the picture is."""
+def picture(path, width, height, channels=1, edge=256, bits=8, sample=0):
+    """A TIFF file of tiles that all stand at one place, black ones or of that byte: small, however large the picture is."""
     across, down = -(-width // edge), -(-height // edge)
-    tile = bytes(edge * edge * channels * bits // 8)
+    tile = bytes([sample]) * (edge * edge * channels * bits // 8)
     count = across * down
     entries, extra, start = [], b"", 8
     head = 8 + 2 + 12 * 11 + 4

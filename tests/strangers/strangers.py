@@ -17,6 +17,7 @@ import time
 
 import crowds
 import nodes
+import rolling
 from places import Server, asked_once, connected, get, picture, reset
 
 MIB = 2 ** 20
@@ -143,6 +144,11 @@ def no_node(program, room):
     return f"{'closed' if closed else 'let in'}, {refused} counted", "closed, 1 counted", closed and refused == 1
 
 
+def restarted(program, room):
+    came, mixed, old, told = rolling.restarted(program, room, ["--peer-versions"])
+    return f"{came} images, {mixed} mixed, {old} not new at the end, {told} told", "0, 0, 1 or more told", came > 0 and mixed == 0 and old == 0 and told > 0
+
+
 ATTACKS = {
     "a hung node beside a dead one": hung,
     "an overview beside a silent node": silent,
@@ -158,6 +164,7 @@ ATTACKS = {
     "a FIFO as an image": fifo,
     "names with escapes": escapes,
     "one who is no node": no_node,
+    "nodes restarted one after another with a new file": restarted,
     "64 idle connections at the listeners of statistics and nodes": held_elsewhere,
 }
 

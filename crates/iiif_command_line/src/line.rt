@@ -77,6 +77,9 @@ const OWN_NAME: &str = "self";
 
 const MOST_NAME: usize = 255;
 
+/// The most bytes of an image's name that has room for the version of its file.
+const MOST_VERSIONED_NAME: usize = 992;
+
 /// The greatest port.
 const MOST_PORT: u64 = 65_535;
 
@@ -171,7 +174,7 @@ static OPTIONS: [(&str, &str, &str); 19] = [
 ];
 
 /// The options that take nothing: the name, and the help.
-static FLAGS: [(&str, &str); 6] = [
+static FLAGS: [(&str, &str); 7] = [
     ("upscale", "answer sizes with ^ above the region's"),
     ("hex", "write the answer's bytes as hexadecimal digits"),
     ("check", "open all images, write a line for each, and end"),
@@ -183,6 +186,10 @@ static FLAGS: [(&str, &str); 6] = [
     (
         "peer-only",
         "close connections of other nodes that come from no --peer's address",
+    ),
+    (
+        "peer-versions",
+        "ask other nodes for an image only where its file is theirs",
     ),
 ];
 
@@ -232,6 +239,9 @@ pub enum LineFault {
     /// A file of the folder of images is at fault.
     #[error("image")]
     Folder(FolderFault),
+    /// An image's name has no room for the version of its file.
+    #[error("image")]
+    LongName,
     #[error("peer")]
     Peer,
     #[error("mode")]
@@ -308,6 +318,8 @@ pub struct Options<'a> {
     /// This node's name, and each other node's name and address.
     pub name: &'a str,
     pub peers: Vec<(&'a str, &'a str)>,
+    /// Whether the version of an image's file is told to other nodes that are asked, and compared where they ask.
+    pub peer_versions: bool,
     pub mode: Mode<'a>,
     pub ghost within: { cache_bytes < 2 ^ 63 },
     pub ghost sides: { (1 ≤ edge) × (edge ≤ 1024) × (edge ≤ max) × (max ≤ 16384) },
@@ -479,6 +491,18 @@ fn images<'t, 'a: 't>(
         Ok(images) => Ok(images),
         Err(_) => Err(LineFault::NoMemory),
     }
+}
+
+/// The same images, where each name has room for the version of its file, as `are_versioned` asks for.
+fn with_room<'t>(
+    images: Vec<(&'t str, &'t str)>,
+    are_versioned: bool,
+) -> Result<Vec<(&'t str, &'t str)>, LineFault> {
+    let is_long = |image: &(&str, &str)| image.0.len() > MOST_VERSIONED_NAME;
+    if are_versioned && images.iter().any(is_long) {
+        return Err(LineFault::LongName);
+    }
+    Ok(images)
 }
 
 /// Whether a text may name a node.
@@ -656,7 +680,8 @@ pub fn options_in<'t, 'a: 't>(
         touch_bytes,
     } = shares_in(matches)?;
     let limits = limits_in(matches)?;
-    let images = images_in(alloc, matches, listed)?;
+    let peer_versions = matches.get_flag("peer-versions");
+    let images = with_room(images_in(alloc, matches, listed)?, peer_versions)?;
     let name = name_in(matches);
     let peers = peers_in(alloc, matches, name)?;
     Ok(Options {
@@ -676,6 +701,7 @@ pub fn options_in<'t, 'a: 't>(
         skip_unfit: matches.get_flag("skip-unfit"),
         name,
         peers,
+        peer_versions,
         mode: mode_in(matches)?,
     })
 }

@@ -7,7 +7,9 @@ ghost use Rattle.iiif_tile_group.specs.Named.{gave_of, pictures_of};
 ghost use Rattle.iiif_start.specs.Stored.{bytes_of, keeps_of, stored_gave};
 ghost use Rattle.iiif_server.specs.Stocks.{IsStock};
 ghost use Rattle.iiif_keys.specs.Ledgers.{all_parts};
-ghost use Rattle.iiif_peer_link.specs.Honest.{IsHonest};
+ghost use Rattle.iiif_peer_link.specs.Honest.{IsHonestTo};
+ghost use Rattle.iiif_peer_versions.specs.Keys.{IsSpelled};
+ghost use Rattle.iiif_peer_versions.specs.Told.{told_in};
 
 use crate::watcher::Watcher;
 use iiif_keys::System;
@@ -45,14 +47,17 @@ impl<'p, J: System, R: Reaches> NamedLinks<'p, J, R> {
         peer: &'p Peer,
         watcher: &'p Watcher,
     ) -> Result<NamedLinks<'p, J, R>, NoMemory>
-        requires { IsTrue J.honest → IsTrue R.keeps × IsHonest R.answers J.stable J.pictures }
+        requires { IsTrue J.honest → IsTrue R.keeps
+            × IsHonestTo (IsSpelled (told_in watcher.now.neighbours.versions)) R.answers J.stable J.pictures }
     {
         let NamedLinks {
             mut names,
             mut links,
         } = self;
         let log = watcher.log.as_ref();
-        let link = TcpLink::new(alloc, peer, &watcher.neighbours.watch, log);
+        let neighbours = &watcher.neighbours;
+        let versions = neighbours.versions();
+        let link = TcpLink::versioned(alloc, peer, &neighbours.watch, log, versions);
         names.push(String::from_str(alloc, peer.name())?)?;
         links.push(link)?;
         Ok(NamedLinks { names, links })
@@ -67,7 +72,8 @@ fn stock<'p, J: System, R: Reaches>(
     room: Room,
     blank: Blank,
 ) -> Result<Stock<TcpLink<'p, J, R>, NoGate>, NoMemory>
-    requires { IsTrue J.honest → IsTrue R.keeps × IsHonest R.answers J.stable J.pictures }
+    requires { IsTrue J.honest → IsTrue R.keeps
+        × IsHonestTo (IsSpelled (told_in watcher.now.neighbours.versions)) R.answers J.stable J.pictures }
     ensures { (name parts : ℕ) → blank.name ≡ name → blank.parts ≡ parts → parts ≡ all_parts → IfOk result (IsStock name parts) }
 {
     let neighbours = &watcher.neighbours;
@@ -106,7 +112,8 @@ pub fn among<'p, R: Opens + Wait, W: Reaches, J: System>(
         ∥ keeps_of R.keeps item.source ∥₁ }
     requires kept { (name : List ℕ) (item : _) → item_named catalogue name ≡ Some item → keeps_of R.keeps item.source → J.stable name }
     requires edge { config.edge ≡ J.edge }
-    requires honest { IsTrue J.honest → IsTrue W.keeps × IsHonest W.answers J.stable J.pictures }
+    requires honest { IsTrue J.honest → IsTrue W.keeps
+        × IsHonestTo (IsSpelled (told_in watcher.now.neighbours.versions)) W.answers J.stable J.pictures }
     requires tiles { (blanks.0.name ≡ J.tiles_name) × (blanks.0.parts ≡ J.tiles_parts) × (J.tiles_parts ≡ all_parts) }
     requires sums { (blanks.1.name ≡ J.sums_name) × (blanks.1.parts ≡ J.sums_parts) × (J.sums_parts ≡ all_parts) }
     ensures settings { IfOk result (λ n. n.settings ≡ config) }

@@ -44,7 +44,6 @@ where
         times,
         watcher,
     } = manner;
-    let tally = &watcher.tally;
     let company = OpenConnections::new();
     let viewers = Viewers {
         node,
@@ -56,7 +55,7 @@ where
     let peers = PeerCalls {
         node,
         times,
-        tally,
+        watcher,
         company: &company,
     };
     let statistics = Statistics {

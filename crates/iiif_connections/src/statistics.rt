@@ -61,14 +61,16 @@ fn service_of(is_wanted: bool, is_gone: bool) -> Service
     }
 }
 
-/// The images that are served, and those that are left out.
-fn image_metrics(images: Images) -> ImageMetrics
+/// The images that are served, those that are left out, and how often another node asked for another version of one.
+fn image_metrics(images: Images, other_versions: u64) -> ImageMetrics
     ensures served { result.served ≡ images.served }
     ensures unfit { result.unfit ≡ images.unfit }
+    ensures other_versions { result.other_versions ≡ other_versions }
 {
     ImageMetrics {
         served: images.served,
         unfit: images.unfit,
+        other_versions,
     }
 }
 
@@ -87,10 +89,11 @@ impl<'a, R: Opens + Wait, J: System, N, T> Measure<R> for Statistics<'a, R, J, N
     fn measure(&self, rt: &R) -> Metrics {
         let tiles = self.node.groups().tiles();
         let sums = self.node.groups().sums();
+        let others = self.watcher.neighbours.others_asked.count(rt);
         Metrics {
             tiles: cache_metrics(tiles.book(rt), tiles.kept(rt)),
             sums: cache_metrics(sums.book(rt), sums.kept(rt)),
-            images: image_metrics(self.watcher.images),
+            images: image_metrics(self.watcher.images, others),
             held: held_metrics(self.watcher.images.held),
             counts: self.watcher.tally.counts(rt),
             kept: self.node.most_kept(rt),

@@ -4,3 +4,4 @@ pub mod Lines
 pub mod Moments
 pub mod PeerLines
 pub mod Waiting
+pub mod VersionLines

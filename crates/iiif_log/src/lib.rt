@@ -7,6 +7,7 @@ pub use escape::push_escaped;
 pub use line::{line_bytes, lost_line_bytes};
 pub use log::{Log, write_lines};
 pub use moment::{Moment, NoMemory, push_moment};
+pub use other_version::{OtherVersion, version_line_bytes};
 pub use peer::{PeerTurn, Turn, peer_line_bytes};
 pub use queue::{Line, Queue, Taken};
 
@@ -16,5 +17,6 @@ pub mod laws;
 pub mod line;
 pub mod log;
 pub mod moment;
+pub mod other_version;
 pub mod peer;
 pub mod queue;

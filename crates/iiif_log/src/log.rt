@@ -10,6 +10,7 @@ ghost use Rattle.iiif_log.specs.Waiting.{line_view, lines_in};
 use crate::answered::Answered;
 use crate::line::{line_bytes, lost_line_bytes};
 use crate::moment::NoMemory;
+use crate::other_version::{OtherVersion, version_line_bytes};
 use crate::peer::{PeerTurn, peer_line_bytes};
 use crate::queue::{Line, Queue, Taken};
 use iiif_io::{Outlet, send};
@@ -45,6 +46,11 @@ impl Log {
     /// The same of the line of a link to another node.
     pub fn tell_turn<R: Wait>(&self, rt: &R, told: &PeerTurn<'_>) {
         self.put(rt, peer_line_bytes(self.alloc, told));
+    }
+
+    /// The same of the line of a node that asked for another version of a file.
+    pub fn tell_other_version<R: Wait>(&self, rt: &R, told: &OtherVersion<'_>) {
+        self.put(rt, version_line_bytes(self.alloc, told));
     }
 
     /// Puts a line behind the others, or counts one that couldn't be made.

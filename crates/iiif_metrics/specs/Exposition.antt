@@ -65,6 +65,8 @@ abbrev pub image_families : List ℕ → ImageMetrics → List Family
 image_families front i =
     single (front ++ codes "images") (codes "Images that are served.") Gauge i.served
     ∷ single (front ++ codes "images_unfit") (codes "Images that can't be served, and are left out.") Gauge i.unfit
+    ∷ single (front ++ codes "images_other_versions_total")
+    (codes "Other nodes' asks for another version of an image, once a node and an image.") Counter i.other_versions
     ∷ []
 
 -- the images whose files are held in memory, under names with this front

@@ -31,6 +31,8 @@ pub struct ImageMetrics {
     pub served: u64,
     /// Those that can't be, and are left out.
     pub unfit: u64,
+    /// How often another node asked for another version of one of them, each node and image once.
+    pub other_versions: u64,
 }
 
 /// The counts of a server since it was started, and of what it holds.

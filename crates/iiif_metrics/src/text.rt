@@ -198,7 +198,7 @@ fn held_rows(held: &HeldMetrics) -> [Row<'static>; 2]
 }
 
 /// The images that the start named.
-fn image_rows(images: &ImageMetrics) -> [Row<'static>; 2]
+fn image_rows(images: &ImageMetrics) -> [Row<'static>; 3]
     ensures { (front : List ℕ) → map (row_family front) result ≡ image_families front images.now }
 {
     [
@@ -207,6 +207,11 @@ fn image_rows(images: &ImageMetrics) -> [Row<'static>; 2]
             "images_unfit",
             "Images that can't be served, and are left out.",
             images.unfit,
+        ),
+        counter(
+            "images_other_versions_total",
+            "Other nodes' asks for another version of an image, once a node and an image.",
+            images.other_versions,
         ),
     ]
 }

@@ -8,9 +8,11 @@ ghost use Rattle.iiif_start.specs.Stored.{bytes_of, keeps_of, stored_gave};
 ghost use Rattle.iiif_answers.specs.Settings.{refusal_of};
 ghost use Rattle.iiif_program.specs.Lines.{settings_in};
 ghost use Rattle.iiif_keys.specs.Ledgers.{all_parts};
-ghost use Rattle.iiif_peer_link.specs.Honest.{IsHonest};
+ghost use Rattle.iiif_peer_link.specs.Honest.{IsHonestTo};
+ghost use Rattle.iiif_peer_versions.specs.Keys.{IsSpelled};
+ghost use Rattle.iiif_peer_versions.specs.Told.{told_in};
 
-use crate::makings::{Makings, open_makings, watcher_of};
+use crate::makings::{Makings, open_makings, versions_for, watcher_of};
 use crate::work::Listening;
 use iiif_command_line::Options;
 use iiif_connections::{Gate, Link, Manner, Node, Watcher, among, serving};
@@ -51,8 +53,10 @@ where
     E: Outlet + Send,
     requires { refusal_of (settings_in options.now) ≡ None }
 {
+    let before = versions_for(rt, alloc, options, None)?;
     let made = open_makings(rt, alloc, options, err)?;
-    let watcher = watcher_of(alloc, options, &made, listening.logs)?;
+    let versions = versions_for(rt, alloc, options, before.as_ref())?;
+    let watcher = watcher_of(alloc, options, &made, listening.logs, versions)?;
     let post = Post {
         options,
         listening,
@@ -125,7 +129,8 @@ where
     requires kept { (name : List ℕ) (item : _) → item_named made.catalogue name ≡ Some item → keeps_of R.Opens.keeps item.source →
         J.stable name }
     requires edge { made.config.edge ≡ J.edge }
-    requires honest { IsTrue J.honest → IsTrue R.Reaches.keeps × IsHonest R.answers J.stable J.pictures }
+    requires honest { IsTrue J.honest → IsTrue R.Reaches.keeps
+        × IsHonestTo (IsSpelled (told_in post.now.watcher.now.neighbours.versions)) R.answers J.stable J.pictures }
     requires tiles { (blanks.0.name ≡ J.tiles_name) × (blanks.0.parts ≡ J.tiles_parts) × (J.tiles_parts ≡ all_parts) }
     requires sums { (blanks.1.name ≡ J.sums_name) × (blanks.1.parts ≡ J.sums_parts) × (J.sums_parts ≡ all_parts) }
 {

@@ -8,7 +8,8 @@ use crate::settings::config;
 use iiif_command_line::Options;
 use iiif_connections::{Catalogue, Config, Nodes, Room, Times, Watcher};
 use iiif_open_files::Opens;
-use iiif_start::{Held, Images, Opening, Stop, Stored, open_images, report_unfit};
+use iiif_peer_versions::FileVersions;
+use iiif_start::{Held, Images, Opening, Stop, Stored, open_images, read_versions, report_unfit};
 use std::alloc::Global;
 use std::io::Write;
 use std::sync::Wait;
@@ -54,13 +55,28 @@ pub(crate) fn open_makings<'a, R: Opens + Wait, E: Write>(
     })
 }
 
+/// The versions of the images' files, where the options ask for them: all that are known now or, behind an earlier look, those that are as
+/// they were then.
+pub(crate) fn versions_for<'a, R: Opens>(
+    rt: &R,
+    alloc: Global,
+    options: &Options<'a>,
+    before: Option<&FileVersions>,
+) -> Result<Option<FileVersions>, Stop<'a>> {
+    if !options.peer_versions {
+        return Ok(None);
+    }
+    Ok(Some(read_versions(rt, alloc, &options.images, before)?))
+}
+
 /// Who is told of the answers of a node that is made of these, in a log too where one is wanted, and of the asks of the other nodes of the
-/// options. The only error is lack of memory.
+/// options, who knows these versions of the images' files, if any. The only error is lack of memory.
 pub(crate) fn watcher_of<'a, R: Opens + Wait>(
     alloc: Global,
     options: &Options<'a>,
     made: &Makings<R>,
     logs: bool,
+    versions: Option<FileVersions>,
 ) -> Result<Watcher, Stop<'a>> {
     let nodes = Nodes {
         own: options.name,
@@ -74,7 +90,10 @@ pub(crate) fn watcher_of<'a, R: Opens + Wait>(
         held,
     };
     match Watcher::new(alloc, logs, images, &nodes) {
-        Ok(watcher) => Ok(watcher),
+        Ok(mut watcher) => {
+            watcher.neighbours.versions = versions;
+            Ok(watcher)
+        }
         Err(_) => Err(Stop::Memory),
     }
 }

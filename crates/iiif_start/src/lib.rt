@@ -12,6 +12,7 @@ pub use stop::{Stop, report_end};
 pub use stored::Stored;
 pub use touching::touch;
 pub use unfit::{Unfit, report_unfit};
+pub use versions::read_versions;
 pub use wrong::{Origins, report_fault};
 
 pub mod check;
@@ -27,4 +28,5 @@ pub mod stop;
 pub mod stored;
 pub mod touching;
 pub mod unfit;
+pub mod versions;
 pub mod wrong;

@@ -158,7 +158,7 @@ fn shortened<'a>(name: &'a str) -> Stop<'a> {
 }
 
 /// A path that is shared.
-fn share_path(alloc: Global, path: &str) -> Result<Arc<String>, AllocError>
+pub(crate) fn share_path(alloc: Global, path: &str) -> Result<Arc<String>, AllocError>
     ensures { IfOk result (λ p. string_bytes (arc_value p) ≡ path.now) }
 {
     let path = String::from_str(alloc, path)?;

@@ -44,6 +44,9 @@ fn remedy(fault: LineFault) -> &'static str
         LineFault::Folder(_) => {
             "an image of --folder has the name of another one: rename its file"
         }
+        LineFault::LongName => {
+            "with --peer-versions an image's name has at most 992 bytes: the version of its file stands behind it"
+        }
         LineFault::Peer => {
             "--peer is NAME=ADDR with a port at its end, at most 63 times; it and --name have names of 1 to 255 bytes that stand once"
         }

@@ -63,6 +63,7 @@ fn metrics() -> Metrics {
         images: ImageMetrics {
             served: 17,
             unfit: 18,
+            other_versions: 19,
         },
         held: HeldMetrics {
             bytes: 13,
@@ -138,6 +139,9 @@ iiif_images 17
 # HELP iiif_images_unfit Images that can't be served, and are left out.
 # TYPE iiif_images_unfit gauge
 iiif_images_unfit 18
+# HELP iiif_images_other_versions_total Other nodes' asks for another version of an image, once a node and an image.
+# TYPE iiif_images_other_versions_total counter
+iiif_images_other_versions_total 19
 # HELP iiif_held_bytes Bytes of the images' files that are held in memory.
 # TYPE iiif_held_bytes gauge
 iiif_held_bytes 13

@@ -1,0 +1,123 @@
+"""Nodes that are restarted one after another, each with a new file under an old name, while viewers ask all of them."""
+import os
+import random
+import threading
+import time
+
+from places import Server, connected, free_ports, get, picture
+
+SIDE, EDGE, NAMES = 4096, 256, ("a", "b", "c")
+OLD, NEW = 40, 200
+TARGETS = [("full/512,", 512), ("0,0,2048,2048/512,", 512), ("512,1024,256,256/256,", 256), ("2048,0,2048,4096/256,", 256)]
+
+
+def body_of(link):
+    """The body of one answer. None where it isn't an image that came whole."""
+    told = b""
+    while b"\r\n\r\n" not in told:
+        part = link.recv(65536)
+        if not part:
+            return None
+        told += part
+    head, body = told.split(b"\r\n\r\n", 1)
+    length = next(int(line.split(b":")[1]) for line in head.split(b"\r\n") if line.lower().startswith(b"content-length:"))
+    while len(body) < length:
+        part = link.recv(1 << 20)
+        if not part:
+            return None
+        body += part
+    return body if head.split()[1] == b"200" else None
+
+
+def samples(port, region, width):
+    """The samples of one image, of which there are as many as the target says at the end of its body. None where none came."""
+    try:
+        with connected(port, 60) as link:
+            link.sendall(get(f"/iiif/p/{region}/0/default.tif"))
+            body = body_of(link)
+    except OSError:
+        return None
+    if body is None:
+        return None
+    count = width * (2 * width if region.startswith("2048,0") else width)
+    return set(body[-count:])
+
+
+class Ring:
+    """Nodes that each have a copy of one picture of their own."""
+
+    def __init__(self, program, room, options):
+        self.program, self.room, self.options = program, room, options
+        ports = free_ports(3 * len(NAMES))
+        self.ports, self.peers, self.stats = (dict(zip(NAMES, ports[at::3])) for at in range(3))
+        self.nodes = {}
+        for value in (OLD, NEW):
+            picture(self.file(value), SIDE, SIDE, edge=EDGE, sample=value)
+            os.utime(self.file(value), ns=(value * 10 ** 9, value * 10 ** 9))
+
+    def file(self, value):
+        return f"{self.room}/version-{value}.tif"
+
+    def start(self, name, value):
+        """Starts a node over the file with these samples, whose times all copies have."""
+        words = ["--name", name, "--peer-listen", f"127.0.0.1:{self.peers[name]}", "--stats-listen", f"127.0.0.1:{self.stats[name]}"]
+        words += [word for other in NAMES if other != name for word in ("--peer", f"{other}=127.0.0.1:{self.peers[other]}")]
+        self.nodes[name] = Server(self.program, [f"p={self.file(value)}"], [*words, "--log", *self.options], self.ports[name])
+
+    def stop(self, name):
+        self.nodes.pop(name).stop()
+
+    def __enter__(self):
+        for name in NAMES:
+            self.start(name, OLD)
+        return self
+
+    def __exit__(self, *_):
+        for name in list(self.nodes):
+            self.stop(name)
+
+
+def page(port, target):
+    told = b""
+    with connected(port) as link:
+        link.sendall(get(target))
+        while part := link.recv(65536):
+            told += part
+    return told.split(b"\r\n\r\n", 1)[1].decode()
+
+
+def view(ring, seed, over, seen):
+    """Asks random nodes for random images until the end, and notes the samples of each."""
+    chance = random.Random(seed)
+    while not over.is_set():
+        found = samples(ring.ports[chance.choice(NAMES)], *chance.choice(TARGETS))
+        if found is not None:
+            seen.append(found)
+
+
+def restarted(program, room, options):
+    """How many images came meanwhile, how many of them had samples of both files, how many afterwards weren't of the new one alone, and how
+    often nodes told of another version."""
+    with Ring(program, room, options) as ring:
+        over, seen = threading.Event(), []
+        threads = [threading.Thread(target=view, args=(ring, seed, over, seen)) for seed in range(6)]
+        for thread in threads:
+            thread.start()
+        told = 0
+        for name in NAMES:
+            time.sleep(2)
+            ring.stop(name)
+            ring.start(name, NEW)
+            time.sleep(2)
+            told = max(told, *(other_versions(ring.stats[it]) for it in NAMES))
+        over.set()
+        for thread in threads:
+            thread.join()
+        last = [samples(ring.ports[name], *target) for name in NAMES for target in TARGETS]
+        mixed = sum(len(it) > 1 for it in seen)
+        return len(seen), mixed, sum(it != {NEW} for it in last), told
+
+
+def other_versions(port):
+    lines = page(port, "/metrics").splitlines()
+    return next((int(line.split()[-1]) for line in lines if line.startswith("iiif_images_other_versions_total")), 0)
