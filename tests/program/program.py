@@ -5,9 +5,10 @@
     tests/program/program.py --program PROGRAM NAME ..    # the cases whose names have one of these in them
     tests/program/program.py --list
 
-Needs `cc`, which builds pieces.c: where standard output has little room, it takes five bytes a write.
+Needs `cc`, which builds pieces.c: where standard output has little room, it takes five bytes a write; and reads.c, which counts reads.
 
-Tables of cases stand in cases/, in the words of tables.py; options.py has those of servers that listen, on 127.0.0.1 alone. Each case
+Tables of cases stand in cases/, in the words of tables.py; options.py has those of servers that listen, on 127.0.0.1 alone, and keeping.py
+those of what is kept for one answer. Each case
 runs in a room that holds data/, the symbolic link linked.tif to the sample, and the 300 files numbered/N.tif: the sample, whose first two
 samples are N. Cases run side by side. Of one that fails the name, the command, what was wanted and what came are printed; its room then
 stays, as the command needs it. A case that `shows` words runs without them, too, and has to come to something else;
@@ -29,6 +30,7 @@ import sys
 import tempfile
 import time
 
+import keeping
 import options
 import tables
 
@@ -50,7 +52,8 @@ def made_room():
     shutil.copytree(f"{HERE}/data", room, dirs_exist_ok=True)
     with open(f"{room}/sample.tif", "rb") as file:
         sample = file.read()
-    subprocess.run(["cc", "-O2", "-shared", "-fPIC", "-o", f"{room}/pieces.so", f"{HERE}/pieces.c", "-ldl"], check=True)
+    for name in ("pieces", "reads"):
+        subprocess.run(["cc", "-O2", "-shared", "-fPIC", "-o", f"{room}/{name}.so", f"{HERE}/{name}.c", "-ldl"], check=True)
     os.symlink("sample.tif", f"{room}/linked.tif")
     os.mkdir(f"{room}/numbered")
     for n in range(300):
@@ -184,7 +187,7 @@ def main():
     parser.add_argument("--slowest", action="store_true", help="print what the slowest ten took")
     parser.add_argument("names", nargs="*", metavar="NAME")
     args = parser.parse_args()
-    program, listening, plain = os.path.abspath(args.program), options.CASES, tables.cases()
+    program, listening, plain = os.path.abspath(args.program), [*options.CASES, *keeping.CASES], tables.cases()
     # Those that wait longest begin first.
     every = [(it.name, check_options, it) for it in sorted(listening, key=lambda it: -it.seconds)]
     every += [(it.name, check_table, it) for it in plain]

@@ -16,10 +16,10 @@ pub struct ItemGroups<'a, A, B> {
 pub struct RenderContext<'a, A, B, R> {
     /// The runtime.
     pub rt: &'a R,
-    /// What memory is taken of.
+    /// The allocator of all that is made.
     pub alloc: Global,
-    /// Who has tiles.
+    /// The group of tiles.
     pub tiles: &'a A,
-    /// Who has sums.
+    /// The group of sums.
     pub sums: &'a B,
 }

@@ -1,4 +1,4 @@
-//! What an image is made of, and what is made.
+//! Requests that are planned, and the parts of an image that come of them.
 
 ghost use Rattle.std.specs.Prelude.{◌≡◌, ◌<◌, ◌≤◌, IfOk};
 ghost use Rattle.std.specs.Int.{div_ceil};
@@ -26,9 +26,9 @@ pub struct Job {
     pub edge: u32,
     /// The image's shape.
     pub shape: Shape,
-    /// What the request comes to.
+    /// The request's region, size, turn and quality, in whole places of the image.
     pub resolved: Resolved,
-    /// Of which tiles or blocks it is made.
+    /// The tiles or blocks that the result is made of.
     pub plan: Plan,
 }
 
@@ -52,9 +52,9 @@ pub(crate) struct JobRef<'a> {
     pub edge: u32,
     /// The image's shape.
     pub shape: Shape,
-    /// What the request comes to.
+    /// The request's region, size, turn and quality, in whole places of the image.
     pub resolved: &'a Resolved,
-    /// Of which tiles or blocks it is made.
+    /// The tiles or blocks that the result is made of.
     pub plan: &'a Plan,
 }
 
@@ -68,8 +68,8 @@ pub(crate) struct Made {
 }
 
 impl Job {
-    /// What a request comes to on the named image of this shape, planned: of tiles with this edge, and of blocks with at most
-    /// `room` sums where there are such. The only error is lack of memory.
+    /// Plans a resolved request on the named image of this shape: of tiles with this edge, and of blocks with at most `room` sums where
+    /// there are such. The only error is lack of memory.
     pub fn new(
         alloc: Global,
         name: Name,

@@ -27,10 +27,10 @@ pub struct KeptSum {
     value: Arc<SumVal>,
 }
 
-/// What has sums, with some of them kept in front of it: these are answered at once, and it is asked for the others alone.
+/// A group of sums with some of them kept in front of it: these are answered at once, and the group is asked for the others alone.
 #[derive(Drop)]
 pub struct WithKept<'a, B> {
-    /// What has the sums.
+    /// The group of sums.
     pub sums: &'a B,
     /// The sums that are kept.
     pub kept: &'a [KeptSum],
@@ -48,7 +48,7 @@ fn kept_for<'a>(kept: &'a [KeptSum], key: &SumKey) -> Option<&'a KeptSum>
     None
 }
 
-/// What is kept is what may be answered for its key: a key may be asked for where this holds.
+/// Answers a key that is kept by its sums. A key may be asked for where each kept value is one that the group may answer for its key.
 impl<'a, B: Items<SumKey, SumVal, P, R>, P, R> Items<SumKey, SumVal, P, R> for WithKept<'a, B> {
     type Open = B::Open;
 
@@ -211,6 +211,25 @@ pub fn count_kept(kept: &[KeptSum]) -> u64
 
 /// Of how many blocks of a band the sums are kept at most. A band of more is so wide that its rows take longer than its blocks.
 const MOST: usize = 64;
+
+/// Returns whether a job may ask twice for an item of its plan, where its result is cut into bands of `rows`: for a tile with places of two
+/// bands, or for a block of a band of more blocks than are kept. The only error is lack of memory.
+pub fn asks_again(alloc: Global, job: &Job, rows: u32) -> Result<bool, NoMemory>
+    requires job { IsJob job.now }
+    requires rows { 0 < rows }
+{
+    let count = job.band_count(rows);
+    let Plan::Sum(_) = &job.plan else {
+        return Ok(count > 1);
+    };
+    for i in 0..count {
+        let band = job.band(alloc, rows, i)?;
+        if count > 1 && band.items.len() > MOST {
+            return Ok(true);
+        }
+    }
+    Ok(false)
+}
 
 /// Sees to it that the sums of a band's blocks are kept, where the job's plan is of blocks: those that are kept already, and the others,
 /// for which a worker for each pass asks, once what is kept of bands that are gone is dropped. So where no band has more than 64 blocks,

@@ -21,7 +21,7 @@ pub use band::{assemble, assemble_band};
 pub use context::{ItemGroups, RenderContext};
 pub use items::Items;
 pub use job::{ImageRef, Job};
-pub use kept::{KeptSum, WithKept, count_kept, keep_band};
+pub use kept::{KeptSum, WithKept, asks_again, count_kept, keep_band};
 pub use lone::lone_tile;
 pub use opened::Opened;
 pub use pool::gather;

@@ -1,8 +1,8 @@
-//! What a worker comes to that begins with a key.
+//! Outcomes of a worker's ask for a key.
 
 use std::sync::Arc;
 
-/// What a worker comes to that begins with a key. O is what others wait for, while the value is made.
+/// Outcome of a worker's ask for a key. O is the load in flight, for which others wait.
 pub enum Opened<K, V, O> {
     /// The value.
     Known(Arc<V>),

@@ -14,7 +14,7 @@ use std::alloc::Global;
 use std::sync::{Arc, Wait};
 use std::thread::{Threads, join};
 
-/// What has the values, and who has nothing to do.
+/// The group that is asked, and the workers that are idle.
 #[derive(Drop)]
 pub(crate) struct Pool<'x, 'a, G, P, R> {
     pub rt: &'x R,

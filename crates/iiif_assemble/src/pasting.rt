@@ -97,7 +97,7 @@ fn put_all(
     }
 }
 
-/// What a tile has of a rectangle of the image that lies in it.
+/// Crops a tile to a rectangle of the image that lies in it.
 fn cut_out(shape: &Shape, rect: Rect, key: &TileKey, value: &Arc<TileVal>) -> Result<Raster, Fault>
     requires fits { TileFitsIn shape.now.dim (channels_of shape.now.kind) key.now }
     requires shaped { TileHasShape shape.now key.now (arc_value value.now) }

@@ -257,6 +257,8 @@ pub enum Mode<'a> {
     One {
         target: &'a str,
         hex: bool,
+        /// Whether the words say how many bytes a cache keeps. Else it keeps no more than this one answer asks for twice.
+        cache_given: bool,
     },
     Listen {
         viewers: &'a str,
@@ -709,6 +711,7 @@ pub fn options_in<'t, 'a: 't>(
 /// How the program is run: exactly one way, with the options that go with it.
 fn mode_in<'t, 'a: 't>(matches: &ArgMatches<'a>) -> Result<Mode<'t>, LineFault> {
     let hex = matches.get_flag("hex");
+    let cache_given = matches.get_str("cache-bytes").is_some();
     let log = matches.get_flag("log");
     let peers = matches.get_str("peer-listen");
     let stats = matches.get_str("stats-listen");
@@ -716,7 +719,11 @@ fn mode_in<'t, 'a: 't>(matches: &ArgMatches<'a>) -> Result<Mode<'t>, LineFault> 
     let listens = log || peers.is_some() || stats.is_some() || peer_only;
     let check = matches.get_flag("check");
     match (matches.get_str("one"), matches.get_str("listen")) {
-        (Some(target), None) if !check && !listens => Ok(Mode::One { target, hex }),
+        (Some(target), None) if !check && !listens => Ok(Mode::One {
+            target,
+            hex,
+            cache_given,
+        }),
         (None, Some(viewers)) if !check && !hex && (!peer_only || peers.is_some()) => {
             Ok(Mode::Listen {
                 viewers,

@@ -7,6 +7,7 @@ pub use iiif_start::stop;
 
 pub mod alone;
 mod hex;
+mod keeping;
 mod listening;
 pub mod makings;
 mod one;

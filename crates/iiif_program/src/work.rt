@@ -4,11 +4,12 @@ use iiif_command_line::{Mode, Options};
 use iiif_connections::Times;
 use iiif_services::Addresses;
 
-/// One target, and whether the body of its answer is written as hexadecimal digits.
+/// One target, whether the body of its answer is written as hexadecimal digits, and whether the words say how many bytes a cache keeps.
 #[derive(Clone, Copy)]
 pub(crate) struct One<'a> {
     pub target: &'a str,
     pub hex: bool,
+    pub cache_given: bool,
 }
 
 /// Where a node listens, for how long it waits, whether a line is written for each answer, and how much memory is written to before it
@@ -32,7 +33,15 @@ impl<'a> Work<'a> {
     /// What the options ask of a node. A check of the images asks nothing of one.
     pub(crate) fn of(options: &'a Options<'_>) -> Option<Work<'a>> {
         match options.mode {
-            Mode::One { target, hex } => Some(Work::One(One { target, hex })),
+            Mode::One {
+                target,
+                hex,
+                cache_given,
+            } => Some(Work::One(One {
+                target,
+                hex,
+                cache_given,
+            })),
             Mode::Listen {
                 viewers,
                 peers,
