@@ -1,4 +1,4 @@
-"""Cases of one answer and of what is kept for it: how often its tiles are read, and how much memory it takes.
+"""Cases of one answer and of what is kept for it: how often its tiles are read, and how many pages of memory it touches first.
 
 Images are files with holes, all of whose samples are 0, in tiles of 256. Their tiles are counted by the reads of a whole tile.
 """
@@ -11,8 +11,8 @@ from options import Case
 
 CASES = []
 EDGE, BASE = 256, ["--base", "http://localhost/iiif"]
-# More than the program with its code, its stacks and a band, and less than that and 16 MiB.
-FEW_KIB = 14 * 1024
+# Half of the pages that the 16 MiB of all tiles have. The peak of a child's memory would count its parent's.
+FEW_PAGES = 16 * 1024 // 4 // 2
 
 
 def counts(function):
@@ -40,7 +40,7 @@ def black(path, width, height):
 
 
 def one(program, room, sides, target, *options):
-    """The command of an answer of an image with these sides, how many tiles it reads, and the peak of its memory in KiB."""
+    """The command of an answer of an image with these sides, how many tiles it reads, and how many pages it touches first."""
     with tempfile.TemporaryDirectory() as folder:
         image, notes = f"{folder}/black.tif", f"{folder}/notes"
         black(image, *sides)
@@ -51,15 +51,15 @@ def one(program, room, sides, target, *options):
             child.returncode = os.waitstatus_to_exitcode(status)
         if child.returncode:
             raise ValueError(f"status {child.returncode}")
-        return command, os.path.getsize(notes), usage.ru_maxrss
+        return command, os.path.getsize(notes), usage.ru_minflt
 
 
 @counts
 def an_overview_keeps_no_tiles_but_where_the_words_say_so(program, room):
     got = []
     for options in ([], ["--cache-bytes", "67108864"]):
-        command, reads, peak = one(program, room, (4096, 4096), "full/200,", "--workers", "1", *options)
-        got.append((reads, peak < FEW_KIB))
+        command, reads, pages = one(program, room, (4096, 4096), "full/200,", "--workers", "1", *options)
+        got.append((reads, pages < FEW_PAGES))
     return got, [(256, True), (256, False)], command
 
 

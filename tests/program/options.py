@@ -462,14 +462,14 @@ def is_listening(port):
         return False
 
 
-def replied(port, source=None):
+def replied(port, source=None, name="a", length=None):
     """Asks for the tile (0, 0) of edge 2 from an address of this machine: the reply, nothing where the connection is closed."""
-    ask = wire.ask(1, 1, wire.tile_key(b"a", 2, 0, 0))
+    ask = wire.ask(1, 1, wire.tile_key(name.encode(), 2, 0, 0))
     for _ in range(200):
         try:
             with socket.create_connection(("127.0.0.1", port), 10, (source, 0) if source else None) as link:
                 link.sendall(ask)
-                return exactly(link, len(reply()))
+                return exactly(link, length or len(reply()))
         except ConnectionRefusedError:
             time.sleep(0.02)
         except (ConnectionResetError, BrokenPipeError):
@@ -477,10 +477,11 @@ def replied(port, source=None):
     return None
 
 
-def reply():
-    """The right reply: the tile's shape and its four samples."""
-    values = wire.Values({"a": sample()}, 2)
-    return values.replied(1, 1, wire.tile_key(b"a", 2, 0, 0))[0]
+def reply(name="a", known="a"):
+    """The right reply to an ask for an image of this name, where the sample is known by that one: of the same name the tile's shape and its
+    four samples, else that there is none."""
+    values = wire.Values({known: sample()}, 2)
+    return values.replied(1, 1, wire.tile_key(name.encode(), 2, 0, 0))[0]
 
 
 @shows("--peer-listen")
@@ -504,6 +505,20 @@ def peer_only_closes_who_comes_from_no_peers_address(program, room):
         with Server(program, ["a=:sample"], words):
             got.append([replied(peers, source) for source in ("127.0.0.2", "127.0.0.3")])
     return got, [[reply(), b""], [reply(), reply()]], command(program, *words, "--peer-only", "a=:sample")
+
+
+@shows("--peer-versions")
+def an_ask_has_the_version_of_the_file_behind_its_name(program, room):
+    # The built-in sample has 138 bytes, and was last changed at 0.
+    got, named, other = [], f"a{138:016x}{0:016x}", f"a{139:016x}{0:016x}"
+    for words in (["--peer-versions"], []):
+        peers, statistics = free_port(), free_port()
+        words = ["--edge", 2, "--peer-listen", f"127.0.0.1:{peers}", "--stats-listen", f"127.0.0.1:{statistics}", *words]
+        with Server(program, ["a=:sample"], words):
+            got.append([replied(peers, None, it, len(reply(it, "b"))) == reply(it, "b") for it in ("a", named, other)])
+            got.append(replied(peers, None, named, len(reply(named, named))) == reply(named, named))
+            got.append(counter(page(statistics, "/metrics")[1], "iiif_images_other_versions_total"))
+    return got, [[True, False, True], True, 1, [False, True, True], False, 0], command(program, *words, "--peer-versions", "a=:sample")
 
 
 @shows("--peer")

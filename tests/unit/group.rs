@@ -1,7 +1,7 @@
 //! Tests of groups, which call only what is public: calls that share a load, are held at a gate, noted there or asked of the key's
-//! owner (`iiif_group`); sums made of their parts (`iiif_sum_group`); what a node replies to others, crossed nodes, cut replies and
-//! peers that lie (`iiif_peer_groups`); links over TCP and over memory (`iiif_peer_link`); and a device that turns bits
-//! (`iiif_witnesses`).
+//! owner (`iiif_group`); sums made of their parts (`iiif_sum_group`), also of parts that the caller gets (`iiif_group_items`); what a node
+//! replies to others, crossed nodes, cut replies and peers that lie (`iiif_peer_groups`); links over TCP and over memory
+//! (`iiif_peer_link`); and a device that turns bits (`iiif_witnesses`).
 
 mod acts;
 mod bars;
@@ -22,6 +22,7 @@ mod messages;
 mod nodes;
 mod note_tests;
 mod owner_tests;
+mod parts;
 mod peers;
 mod refusal_tests;
 mod run_tests;

@@ -67,7 +67,8 @@ unfolding hex_digits
 same_number zero a b e la lb = omega (arith, la, lb)
 same_number (suc count) a b e la lb =
     let long = length-hex count (a / 16) ∙ sym (length-hex count (b / 16)) in
-    let cut = cut_alike (hex_digits count (a / 16)) (hex_digit (a % 16) ∷ []) (hex_digits count (b / 16)) (hex_digit (b % 16) ∷ []) long e in
+    let cut = cut_alike (hex_digits count (a / 16)) (hex_digit (a % 16) ∷ []) (hex_digits count (b / 16)) (hex_digit (b % 16) ∷ [])
+    long e in
     let digit = same_digit (a % 16) (b % 16) (ap (λ t. get_or t 0 0) cut.1) (mod_below a 16 (omega arith)) (mod_below b 16 (omega arith)) in
     let rest = same_number count (a / 16) (b / 16) cut.0 (div_below a 16 (16 ^ count) (omega arith) (omega (arith, la)))
     (div_below b 16 (16 ^ count) (omega arith) (omega (arith, lb))) in

@@ -23,5 +23,5 @@ PlainIsAsItIs = (key wire : List ℕ) → IsSpelled None key wire → wire ≡ k
 
 -- What may be replied to it is what may be replied to the key.
 abbrev pub PlainIsRepliedTo : Answering → Type 0
-PlainIsRepliedTo answers = (version : Version) (group status : ℕ) (key value : List ℕ) → RepliesIn None answers version group key status value →
-    answers version group key status value
+PlainIsRepliedTo answers = (version : Version) (group status : ℕ) (key value : List ℕ) →
+    RepliesIn None answers version group key status value → answers version group key status value

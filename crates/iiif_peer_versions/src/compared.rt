@@ -51,8 +51,8 @@ impl<'a, A, V> Compared<'a, A, V> {
         V: Notice<R>,
         requires { IsAsk ask.now.group ask.now.key.items }
         ensures spelled { IsReply ask.now.key.items result.0 result.1.items }
-        ensures allowed { RepliesToVersion (told versions.now) (A.answers self.now.service.now) ask.now.version ask.now.group ask.now.key.items
-            result.0 result.1.items }
+        ensures allowed { RepliesToVersion (told versions.now) (A.answers self.now.service.now) ask.now.version ask.now.group
+            ask.now.key.items result.0 result.1.items }
     {
         match versions.take_off(alloc, ask.key.as_slice()) {
             Ok(Some(key)) => {

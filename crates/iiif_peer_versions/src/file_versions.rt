@@ -54,8 +54,8 @@ impl FileVersions {
         ensures size { IfSome result (λ digits. length digits ≡ 32) }
         ensures named { IfSome result (λ _. IsName name.now) }
         ensures short { IfSome result (λ _. length name.now ≤ name_limit) }
-        ensures none { IfNone result ((digits : List ℕ) → IsName name.now → length name.now ≤ name_limit → told self.now name.now ≡ Some digits
-            → ⊥) }
+        ensures none { IfNone result ((digits : List ℕ) → IsName name.now → length name.now ≤ name_limit →
+            told self.now name.now ≡ Some digits → ⊥) }
     {
         if name.is_empty() || name.len() > NAME_LIMIT {
             return None;

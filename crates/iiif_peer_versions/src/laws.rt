@@ -4,8 +4,8 @@ ghost use Rattle.iiif_peer_versions.specs.Laws.{KeysStayApart, PlainIsAsItIs, Pl
 
 use iiif_peer_server::Answers;
 
-/// So two nodes that read the same bytes read the same key, and have the same version of its image's file, whatever names their images have:
-/// also where a name itself ends in such digits.
+/// So two nodes that read the same bytes read the same key, and have the same version of its image's file, whatever names their images
+/// have: also where a name itself ends in such digits.
 pub fn keys_stay_apart()
     ensures { KeysStayApart }
 {}

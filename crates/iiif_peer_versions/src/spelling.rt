@@ -63,8 +63,8 @@ impl FileVersions {
         None
     }
 
-    /// The key that is spelled so with the version of its image's file. None where there is none: no name stands in front, no version behind
-    /// it, none is known of that name, or another one is. The only error is lack of memory.
+    /// The key that is spelled so with the version of its image's file. None where there is none: no name stands in front, no version
+    /// behind it, none is known of that name, or another one is. The only error is lack of memory.
     pub fn take_off(&self, alloc: Global, wire: &[u8]) -> Result<Option<Vec<u8>>, AllocError>
         ensures spelled { IfOk result (λ found. IfSome found (λ key. IsWireOf (told self.now) key.items wire.now)) }
         ensures none { IfOk result (λ found. IfNone found ((key : List ℕ) → IsWireOf (told self.now) key wire.now → ⊥)) }

@@ -14,7 +14,7 @@ ghost use Rattle.iiif_peer_versions.specs.Told.{told_in};
 
 use crate::alone::answer_alone;
 use crate::keeping::open_for_one;
-use crate::makings::{Makings, watcher_of};
+use crate::makings::{Makings, versions_for, watcher_of};
 use crate::one::{answer_in_hex, answer_one, write_in_hex};
 use crate::work::One;
 use iiif_command_line::Options;
@@ -55,6 +55,7 @@ where
     E: Write,
     requires { refusal_of (settings_in options.now) ≡ None }
 {
+    let before = versions_for(rt, alloc, options, None)?;
     let made = open_for_one(rt, alloc, options, one, err)?;
     if options.peers.is_empty() {
         return write_one_alone(rt, alloc, made, one, out);

@@ -71,7 +71,8 @@ fn samples_of(value: &TileVal) -> Numbers {
     }
 }
 
-fn sums_of(value: &SumVal) -> Numbers {
+/// The sums of a block.
+pub(crate) fn sums_of(value: &SumVal) -> Numbers {
     match value.sums.sums() {
         [a, b, c, d] => (4, [*a, *b, *c, *d]),
         [sum] => (1, [*sum, 0, 0, 0]),

@@ -1,4 +1,4 @@
-//! A device that turns bits, read through a source that checks: each read that a bit was turned in is a fault, and the next gives the bytes.
+//! A device that turns bits, read through a source that checks: each read in which a bit was turned is a fault, and the next is right.
 
 use crate::fixtures::is_same;
 use iiif_source::{ReadFault, Source};

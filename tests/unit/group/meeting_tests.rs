@@ -1,11 +1,11 @@
-//! Two calls at once: one load for both, answers while another is held at the gate or asks the owner, a fault that both are told, and
-//! reads of a source that overlap, since nothing is locked there.
+//! Two calls at once: one load for both, also of a block whose parts its caller gets; answers while another is held at the gate or asks
+//! the owner; a fault that both are told; and reads of a source that overlap, since nothing is locked there.
 
 use crate::fixtures::books::NO_CALLS;
-use crate::group::calls::{Answer, Call, FIRST, SECOND, Step};
+use crate::group::calls::{Answer, Call, FIRST, HALVED, SECOND, Step};
 use crate::group::cases::{Case, first_wrong};
 use crate::group::meetings::Meeting;
-use crate::group::nodes::{ONE, Owner, ROOMY, THREE, TWO};
+use crate::group::nodes::{FIVE, FOUR, ONE, Owner, ROOMY, THREE, TWO};
 use crate::group::peers::GIVEN;
 use crate::group::scenes::{QUIET, Scene, Seen};
 use iiif_keys::Fault;
@@ -288,5 +288,61 @@ static AT_ONCE: [Case; 2] = [
 #[test]
 fn two_loads_of_tiles_and_of_sums_overlap(rt: HostRuntime) {
     let wrong = first_wrong(&rt, rt.alloc(), &AT_ONCE);
+    assert!(rt; wrong.is_empty(), "{wrong}");
+}
+
+// One part of a block above level 1 has a pixel of `a`, and four of the block of level 1 have.
+static PARTS: [Case; 2] = [
+    Case {
+        what: "Two calls for a block whose parts its caller gets have the sums, and each part is made once.",
+        owner: Owner::Itself,
+        fuse: 99,
+        bytes: ROOMY,
+        reads_meet: false,
+        asks_meet: false,
+        scene: Scene::Parts(Ok(HALVED)),
+        seen: Seen {
+            books: (
+                FOUR,
+                Book {
+                    gets: 9,
+                    joins: 1,
+                    leads: 8,
+                    loads: 8,
+                    landed: 8,
+                    ..NO_CALLS
+                },
+            ),
+            done: ([1, 1, 1, 1], 12),
+            ..QUIET
+        },
+    },
+    Case {
+        what: "The fault of a read is told to both, as that of the part and of the block.",
+        owner: Owner::Itself,
+        fuse: 1,
+        bytes: ROOMY,
+        reads_meet: false,
+        asks_meet: false,
+        scene: Scene::Parts(FUSED),
+        seen: Seen {
+            books: (
+                Book { faults: 1, ..ONE },
+                Book {
+                    gets: 6,
+                    joins: 1,
+                    faults: 5,
+                    ..FIVE
+                },
+            ),
+            done: ([1, 0, 0, 0], 6),
+            ..QUIET
+        },
+    },
+];
+
+#[test]
+fn block_is_told_alike_to_both(rt: HostRuntime) {
+    let wrong = first_wrong(&rt, rt.alloc(), &PARTS);
     assert!(rt; wrong.is_empty(), "{wrong}");
 }

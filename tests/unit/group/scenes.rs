@@ -1,10 +1,12 @@
 //! Scenes at nodes that are made for them, and the observations there.
 
 use crate::fixtures::books::NO_CALLS;
+use crate::group::calls::Answer;
 use crate::group::crossings::{crossed, serves};
 use crate::group::doorways::{Doorway, Reads};
 use crate::group::meetings::{Meeting, crowded, met, overlapped};
 use crate::group::nodes::{Node, Setup, catalogue, shared};
+use crate::group::parts::parted;
 use crate::group::runs::{Stages, Steps, gives_out, ran};
 use iiif_keys::{Fault, PARTS, System};
 use iiif_source::Source;
@@ -29,6 +31,8 @@ pub(crate) enum Scene {
     Crowds(Meeting),
     /// Two steps at once, and what each comes to. Their reads of the source overlap.
     Overlaps(Steps),
+    /// Two calls at once for a block whose parts its caller gets, of which one joins the other, and what both come to.
+    Parts(Answer),
     /// All asks of other nodes are replied to.
     Replies,
     /// So many passes are given out, and no more.
@@ -90,6 +94,7 @@ where
         Scene::Meets(meeting) => met(rt, alloc, node, setup.gate, meeting),
         Scene::Crowds(meeting) => crowded(rt, alloc, node, setup.gate, meeting),
         Scene::Overlaps(steps) => overlapped(rt, alloc, node, setup.gate, steps),
+        Scene::Parts(wanted) => Ok(parted(rt, alloc, node, setup.gate, wanted)),
         Scene::Replies => serves(rt, alloc, node),
         Scene::GivesOut(count) => Ok(gives_out(rt, node, *count)),
         Scene::Crosses => crossed(rt, alloc, node, setup),
