@@ -1,2 +1,2 @@
+mod Finishing
 mod Knowing
-mod Landing

@@ -4,8 +4,9 @@
 --   share      an outcome's value for one more holder, or lack of memory
 --   begun      the answer to a call: the outcome of a flight of its key, or a load that the caller owes
 --   asked      of a load: the key's owner was asked, and gave no value
+--   falls      a call enters again, or owes a load, where the owner gave no value
 --   gate       each load passes it
-use Rattle.std.specs.Prelude.{◌≡◌, ℕ, ◌+◌, ◌≤◌, Bool, List, IfSome, IsFalse, IsTrue, MatchOption, OnErr, OnOk}
+use Rattle.std.specs.Prelude.{◌≡◌, ◌⊎◌, ℕ, ◌+◌, ◌≤◌, Bool, List, IfSome, IsFalse, IsTrue, MatchOption, OnErr, OnOk}
 use Rattle.std.specs.Prelude.{Some, Result, Ok, Err, is_some}
 use Rattle.std.specs.Result.{ForOk, ForErr}
 use Rattle.std.specs.Arc.{arc_value}
@@ -97,6 +98,11 @@ module _ {K J L V : Type 0} {a b c d e : _} where
   abbrev pub IsAlone : Begun K J L V a b c d e → Type 0
   IsAlone (Known r) = Unit {0}
   IsAlone (Load o) = IsFalse (was_asked o)
+
+  -- A call enters again, or owes a load behind an ask, only where this holds, as that the owner was asked and gave no value.
+  abbrev pub FallsBackIf : Type 0 → Pass L → Pass L → Begun K J L V a b c d e → Type 0
+  FallsBackIf nothing old new (Known r) = (new.gets ≡ old.gets + 1) ⊎ nothing
+  FallsBackIf nothing old new (Load o) = ((new.gets ≡ old.gets + 1) × IsFalse (was_asked o)) ⊎ nothing
 
   -- The owner was asked for a load.
   abbrev pub HasAsked : Begun K J L V a b c d e → Type 0

@@ -1,6 +1,6 @@
 -- Words that only this crate's own functions need.
 --
---   lands      a flight that lands, with its outcome and the place for its value
+--   settled    a flight that is to land, with its outcome and the place for its value
 --   tells      its leader is told
 --   relays     a flight that lands with the outcome of another of its key
 --   answers    the answer of a key's owner
@@ -26,14 +26,14 @@ use Rattle.iiif_singleflight.specs.declared.checked.CheckedLead.{CheckedLead}
 use Rattle.iiif_singleflight.specs.declared.completion.Completion.{Completion}
 use Rattle.iiif_singleflight.specs.declared.pass.Pass.{Pass}
 use Rattle.iiif_group.specs.Beginning.{outcome_of, IsFirstFlight}
-use Rattle.iiif_group.specs.Leads.{answered_lead, answered_value, asked_lead, landing_lead, landing_outcome, landing_place}
+use Rattle.iiif_group.specs.Leads.{answered_lead, answered_value, asked_lead, settled_lead, settled_outcome, settled_place}
 use Rattle.iiif_group.specs.declared.asked.Answer.{Answer}
 use Rattle.iiif_group.specs.declared.asked.Answer.TheVariants.{Value, Nothing}
-use Rattle.iiif_group.specs.declared.asked.Landing.{Landing}
+use Rattle.iiif_group.specs.declared.asked.SettledFlight.{SettledFlight}
 use Rattle.iiif_group.specs.declared.begun.Begun.{Begun}
 use Rattle.iiif_group.specs.declared.begun.Begun.TheVariants.{Known, Load}
 use Rattle.iiif_group.specs.declared.begun.Completed.{Completed}
-use Rattle.iiif_group.specs.declared.lookup.Told.{Told}
+use Rattle.iiif_group.specs.declared.lookup.FlightEnd.{FlightEnd}
 
 module _ {K J L V : Type 0} {a : cache_key.Ghosts K V} {b c : _} {d : system.Ghosts J} where
   -- An outcome for the flight that is led.
@@ -60,25 +60,25 @@ module _ {K J L V : Type 0} {a : cache_key.Ghosts K V} {b c : _} {d : system.Gho
     -- The cell is the flight's.
     pub cell : completion_cell completion ≡ checked_cell led
 
-  -- A flight that lands with this outcome, and this place for its value.
-  pub record IsLanding (led : CheckedLead K J L V a b c d) (o : Result (Arc V Global) Fault) (p : Place) (landing : Landing K J L V a b c d)
-      : Type 0 where
+  -- A flight that is settled with this outcome, and this place for its value.
+  pub record IsSettled (led : CheckedLead K J L V a b c d) (o : Result (Arc V Global) Fault) (p : Place)
+      (settled : SettledFlight K J L V a b c d) : Type 0 where
     -- The lead is its own.
-    pub lead : landing_lead landing ≡ led
+    pub lead : settled_lead settled ≡ led
     -- So is the outcome.
-    pub outcome : landing_outcome landing ≡ o
+    pub outcome : settled_outcome settled ≡ o
     -- And the place.
-    pub place : landing_place landing ≡ p
+    pub place : settled_place settled ≡ p
 
   -- A flight that can land.
-  pub record CanLand (landing : Landing K J L V a b c d) : Type 0 where
+  pub record CanLand (settled : SettledFlight K J L V a b c d) : Type 0 where
     -- Its outcome is one of its key.
-    pub outcome : OutcomeOf (landing_lead landing) (landing_outcome landing)
+    pub outcome : OutcomeOf (settled_lead settled) (settled_outcome settled)
     -- The place is one for its class.
-    pub place : HasPlace (checked_class (landing_lead landing)) (landing_place landing)
+    pub place : HasPlace (checked_class (settled_lead settled)) (settled_place settled)
 
   -- The leader is told the outcome that stands in the cell, which is of its own flight.
-  pub record Tells (completion : Completion K J L V a b c d) (told : Told K J L V a b c d) : Type 0 where
+  pub record Tells (completion : Completion K J L V a b c d) (told : FlightEnd K J L V a b c d) : Type 0 where
     -- The outcome in the cell is of the flight.
     pub own : IsTrue (completion_own completion)
     -- The receipt is of the cell.
@@ -87,7 +87,7 @@ module _ {K J L V : Type 0} {a : cache_key.Ghosts K V} {b c : _} {d : system.Gho
     pub refused : told.refused ≡ completion_refused completion
 
   -- A flight ends with this outcome, or hands it back.
-  pub record Finishes (led : CheckedLead K J L V a b c d) (outcome : Result (Arc V Global) Fault) (told : Told K J L V a b c d)
+  pub record Finishes (led : CheckedLead K J L V a b c d) (outcome : Result (Arc V Global) Fault) (told : FlightEnd K J L V a b c d)
       : Type 0 where
     -- The receipt's outcome is of the key.
     pub key : IsOf (checked_key led) told.receipt
@@ -99,7 +99,7 @@ module _ {K J L V : Type 0} {a : cache_key.Ghosts K V} {b c : _} {d : system.Gho
     pub cell : receipt_cell told.receipt ≡ checked_cell led
 
   -- The ends of a local and a wide flight as that of their load, where it is known whether the wide one was given the same outcome.
-  pub record Joins (local wide : Told K J L V a b c d) (same : Bool) (end : Completed K J L V a b c d) : Type 0 where
+  pub record Joins (local wide : FlightEnd K J L V a b c d) (same : Bool) (end : Completed K J L V a b c d) : Type 0 where
     -- The first receipt is that of the wide flight.
     pub receipt : end.receipt ≡ wide.receipt
     -- The other is that of the local one.
@@ -112,7 +112,7 @@ module _ {K J L V : Type 0} {a : cache_key.Ghosts K V} {b c : _} {d : system.Gho
     pub refused : MatchOption wide.refused (end.refused ≡ local.refused) (λ b. end.refused ≡ Some b)
 
   -- A flight ends with the outcome of another of its key, or with lack of memory.
-  pub record Relays (led : CheckedLead K J L V a b c d) (receipt : Receipt K J L V a b c d) (told : Told K J L V a b c d) (same : Bool)
+  pub record Relays (led : CheckedLead K J L V a b c d) (receipt : Receipt K J L V a b c d) (told : FlightEnd K J L V a b c d) (same : Bool)
       : Type 0 where
     -- The receipt's outcome is of the key.
     pub key : IsOf (checked_key led) told.receipt
@@ -128,10 +128,11 @@ module _ {K J L V : Type 0} {a : cache_key.Ghosts K V} {b c : _} {d : system.Gho
     pub cell : receipt_cell told.receipt ≡ checked_cell led
 
 module _ {K J L V : Type 0} {a : cache_key.Ghosts K V} {b c : _} {d : system.Ghosts J} {e : _} where
-  -- The owner's answer for the flight that is led: a value of the key, or the lead of one who asked.
-  abbrev pub AnswersFor : CheckedLead K J L V a b c d → Answer K J L V a b c d e → Type 0
-  AnswersFor led (Value answered) = (answered_lead answered ≡ led) × IsAnswer led (answered_value answered)
-  AnswersFor led (Nothing asked) = asked_lead asked ≡ led
+  -- The owner's answer for the flight that is led: a value of the key; or the lead of one who asked, where this holds, that the owner gave
+  -- no value.
+  abbrev pub AnswersFor : Type 0 → CheckedLead K J L V a b c d → Answer K J L V a b c d e → Type 0
+  AnswersFor nothing led (Value answered) = (answered_lead answered ≡ led) × IsAnswer led (answered_value answered)
+  AnswersFor nothing led (Nothing asked) = (asked_lead asked ≡ led) × nothing
 
 module _ {K J L V : Type 0} {a b c d e : _} where
   -- A call that leads this flight is told by its cell, as all are who joined it; or it owes a load behind which it will be.

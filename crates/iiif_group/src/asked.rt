@@ -6,7 +6,7 @@ ghost use Rattle.iiif_singleflight.specs.Handles.{checked_class};
 
 use crate::group::Cluster;
 use crate::link::Link;
-use crate::outcomes::share;
+use crate::outcomes::{share, value_in};
 use iiif_keys::{CacheKey, Fault, Shape, System};
 use iiif_singleflight::{CheckedLead, Completion, GroupState};
 use iiif_tables::Place;
@@ -50,8 +50,9 @@ pub(crate) enum Answer<K: CacheKey, J: System, L: Ledger> {
     Nothing(Asked<K, J, L>),
 }
 
-/// Flight that lands: its lead, its outcome, and the place for its value. It can't be dropped, and `land` spends it.
-pub(crate) struct Landing<K: CacheKey, J: System, L: Ledger> {
+/// Flight whose outcome is settled, and which hasn't landed yet: its lead, its outcome, and the place for its value. It can't be dropped,
+/// and `land` spends it.
+pub(crate) struct SettledFlight<K: CacheKey, J: System, L: Ledger> {
     lead: CheckedLead<K, J, L>,
     outcome: Result<Arc<K::Value>, Fault>,
     place: Place,
@@ -85,6 +86,8 @@ impl<N> Nodes<N> {
 impl<'a, N> Peer<'a, N> {
     ghost use Rattle.iiif_group.specs.Beginning.{IsPartOf};
     ghost use Rattle.iiif_group.specs.Code.{AnswersFor};
+    ghost use Rattle.iiif_group.specs.Leads.{peer_link};
+    ghost use Rattle.iiif_group.specs.Owners.{GivesNothing};
     ghost use Rattle.iiif_singleflight.specs.Handles.{checked_key};
 
     /// Asks the owner of a wide flight's key for the value, once, and checks its shape. No lock is held.
@@ -99,30 +102,30 @@ impl<'a, N> Peer<'a, N> {
         requires owner { K.key_bytes (checked_key wide) ≡ self.now.key.now }
         requires class { checked_class wide ≡ Wide }
         requires part { IsPartOf K.CacheKey.own J.System (checked_key wide) shape.now }
-        ensures { AnswersFor wide result }
+        ensures { AnswersFor (GivesNothing N.replied (K.is_shaped J.pictures (checked_key wide)) (checked_key wide) (peer_link self.now))
+            wide result }
     {
-        match self.link.ask(rt, wide.key(), shape) {
-            Ok(value) if wide.key().shaped(shape, &value) => {
-                Answer::Value(Answered { lead: wide, value })
-            }
-            _ => Answer::Nothing(Asked { lead: wide }),
+        let reply = self.link.ask(rt, wide.key(), shape);
+        match value_in::<K, J>(wide.key(), shape, reply) {
+            Some(value) => Answer::Value(Answered { lead: wide, value }),
+            None => Answer::Nothing(Asked { lead: wide }),
         }
     }
 }
 
 impl<K: CacheKey, J: System, L: Ledger> Asked<K, J, L> {
-    ghost use Rattle.iiif_group.specs.Code.{CanLand, IsLanding, OutcomeOf};
+    ghost use Rattle.iiif_group.specs.Code.{CanLand, IsSettled, OutcomeOf};
     ghost use Rattle.iiif_group.specs.Leads.{asked_lead};
     ghost use Rattle.iiif_tables.specs.declared.table.Place.TheVariants.{Nowhere};
 
-    /// Lands the flight with an outcome of this node's own. It keeps nothing: the local flight did.
-    pub(crate) fn into_landing(self, outcome: Result<Arc<K::Value>, Fault>) -> Landing<K, J, L>
+    /// Settles the flight with an outcome of this node's own. It keeps nothing: the local flight did.
+    pub(crate) fn settle(self, outcome: Result<Arc<K::Value>, Fault>) -> SettledFlight<K, J, L>
         requires { OutcomeOf (asked_lead self) outcome }
-        ensures landing { IsLanding (asked_lead self) outcome Nowhere result }
+        ensures settled { IsSettled (asked_lead self) outcome Nowhere result }
         ensures fits { CanLand result }
     {
         let Asked { lead } = self;
-        Landing {
+        SettledFlight {
             lead,
             outcome,
             place: Place::Nowhere,
@@ -132,18 +135,18 @@ impl<K: CacheKey, J: System, L: Ledger> Asked<K, J, L> {
 
 impl<K: CacheKey, J: System, L: Ledger> Answered<K, J, L> {
     ghost use Rattle.iiif_group.specs.Code.{CanLand, IsAnswer};
-    ghost use Rattle.iiif_group.specs.Leads.{answered_lead, answered_value, landing_lead, landing_place};
+    ghost use Rattle.iiif_group.specs.Leads.{answered_lead, answered_value, settled_lead, settled_place};
     ghost use Rattle.iiif_tables.specs.declared.table.Place.{Place};
 
-    /// Lands the flight with its owner's value, of which each tenth is kept.
-    pub(crate) fn into_landing(self, alloc: Global) -> Landing<K, J, L>
+    /// Settles the flight with its owner's value, of which each tenth is kept.
+    pub(crate) fn settle(self, alloc: Global) -> SettledFlight<K, J, L>
         requires { IsAnswer (answered_lead self) (answered_value self) }
-        ensures lead { landing_lead result ≡ answered_lead self }
-        ensures place { landing_place result ≡ Place.Peer }
+        ensures lead { settled_lead result ≡ answered_lead self }
+        ensures place { settled_place result ≡ Place.Peer }
         ensures fits { CanLand result }
     {
         let Answered { lead, value } = self;
-        Landing {
+        SettledFlight {
             lead,
             outcome: share(alloc, value),
             place: Place::Peer,
@@ -151,23 +154,23 @@ impl<K: CacheKey, J: System, L: Ledger> Answered<K, J, L> {
     }
 }
 
-impl<K: CacheKey, J: System, L: Ledger> Landing<K, J, L> {
-    ghost use Rattle.iiif_group.specs.Code.{CanLand, ComesOf, IsLanding, OutcomeOf};
-    ghost use Rattle.iiif_group.specs.Leads.{landing_lead, landing_outcome};
+impl<K: CacheKey, J: System, L: Ledger> SettledFlight<K, J, L> {
+    ghost use Rattle.iiif_group.specs.Code.{CanLand, ComesOf, IsSettled, OutcomeOf};
+    ghost use Rattle.iiif_group.specs.Leads.{settled_lead, settled_outcome};
     ghost use Rattle.iiif_tables.specs.declared.table.Class.TheVariants.{Local};
     ghost use Rattle.iiif_tables.specs.declared.table.Place.TheVariants.{Main};
 
-    /// Lands a local flight with the outcome of its load, whose value this node keeps as its own.
-    pub(crate) fn of_load(
+    /// Settles a local flight with the outcome of its load, whose value this node keeps as its own.
+    pub(crate) fn from_load(
         local: CheckedLead<K, J, L>,
         outcome: Result<Arc<K::Value>, Fault>,
-    ) -> Landing<K, J, L>
+    ) -> SettledFlight<K, J, L>
         requires class { checked_class local ≡ Local }
         requires outcome { OutcomeOf local outcome }
-        ensures landing { IsLanding local outcome Main result }
+        ensures settled { IsSettled local outcome Main result }
         ensures fits { CanLand result }
     {
-        Landing {
+        SettledFlight {
             lead: local,
             outcome,
             place: Place::Main,
@@ -192,9 +195,9 @@ impl<K: CacheKey, J: System, L: Ledger> Landing<K, J, L> {
     /// Lands the flight. The group's lock is held.
     pub(crate) fn land(self, state: &mut GroupState<K, J, L>) -> Completion<K, J, L>
         requires { CanLand self }
-        ensures { ComesOf (landing_lead self) (landing_outcome self) result }
+        ensures { ComesOf (settled_lead self) (settled_outcome self) result }
     {
-        let Landing {
+        let SettledFlight {
             lead,
             outcome,
             place,

@@ -36,7 +36,7 @@ pub struct Group<K: CacheKey, J: System, L: Ledger, N, T> {
     pub(crate) nodes: Nodes<N>,
     pub(crate) gate: T,
     pub(crate) alloc: Global,
-    pub(crate) room: Limit<L>,
+    pub(crate) limit: Limit<L>,
 }
 
 impl<K: CacheKey, J: System, L: Ledger, N, T> Group<K, J, L, N, T> {
@@ -62,20 +62,20 @@ impl<K: CacheKey, J: System, L: Ledger, N, T> Group<K, J, L, N, T> {
         requires parts { blank.parts ≡ L.parts }
         requires all { L.parts ≡ all_parts }
         // So much the table behind the lock may keep: the limit comes from that table alone.
-        ensures limit { IfOk result (λ g. limit_of g.room ≡ bytes) }
-        ensures entries { IfOk result (λ g. room_of g.room ≡ non_zero_usize_get entries) }
+        ensures limit { IfOk result (λ g. limit_of g.limit ≡ bytes) }
+        ensures entries { IfOk result (λ g. room_of g.limit ≡ non_zero_usize_get entries) }
         ensures cluster { IfOk result (λ g. cluster_of g ≡ cluster) }
         ensures gate { IfOk result (λ g. g.gate ≡ gate) }
     {
         let (table, pass, sleepers) = Table::new(alloc, bytes, entries, PARTS, blank)?;
-        let room = table.limit();
+        let limit = table.limit();
         Ok(Group {
             state: Mutex::new(GroupState::new(table, pass, FullLedger::new())),
             sleepers,
             nodes: Nodes::new(cluster),
             gate,
             alloc,
-            room,
+            limit,
         })
     }
 
@@ -110,10 +110,10 @@ impl<K: CacheKey, J: System, L: Ledger, N, T> Group<K, J, L, N, T> {
     }
 
     /// Returns how many bytes keys and values may take together.
-    pub fn room(&self) -> u64
-        ensures { result ≡ limit_of self.now.room }
+    pub fn limit(&self) -> u64
+        ensures { result ≡ limit_of self.now.limit }
     {
-        self.room.bytes()
+        self.limit.bytes()
     }
 
     /// Returns the gate of loads.

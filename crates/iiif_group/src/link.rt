@@ -1,7 +1,8 @@
 //! Links to other nodes.
 
-ghost use Rattle.std.specs.Prelude.{◌≡◌, IfOk, IsTrue};
+ghost use Rattle.std.specs.Prelude.{◌≡◌, IfOk, IsTrue, Result};
 ghost use Rattle.iiif_keys.specs.Shapes.{HasPicture};
+ghost use Rattle.iiif_group.specs.declared.link.LinkFault.{LinkFault};
 
 use iiif_fault::Numbered;
 use iiif_keys::{CacheKey, Shape, System};
@@ -38,12 +39,16 @@ impl Numbered for LinkFault {
 
 /// Link to another node. R is the runtime over which it asks.
 pub trait Link<K: CacheKey, J: System, R> {
+    /// The replies of this link: asked for this key, it gave this one, right or wrong. No premise stands before it.
+    ghost replied: { Self → K → Result K.Value LinkFault → Type 0 } = { λ _ _ _. Unit {0} };
+
     /// Asks the node that owns a key for its value; the key fits an image of this shape. The value is the key's meaning where the
     /// image's bytes are stable and other nodes are honest. The caller checks its shape.
     fn ask(&self, rt: &R, key: &K, shape: &Shape) -> Result<K::Value, LinkFault>
         requires known { HasPicture J.pictures (K.name_of key.now) shape.now }
         requires fits { K.fits_in shape.now key.now }
-        ensures { J.stable (K.name_of key.now) → IsTrue J.honest → IfOk result (λ v. v ≡ K.meaning J.pictures key.now) };
+        ensures meant { J.stable (K.name_of key.now) → IsTrue J.honest → IfOk result (λ v. v ≡ K.meaning J.pictures key.now) }
+        ensures reply { replied self.now key.now result };
 }
 
 /// Link to no node: it refuses with status 3, that no image has the name.

@@ -1,8 +1,9 @@
 //! Lookup of a key's value: begin, wait, complete.
 //!
-//! `begin` enters a call under the group's lock. A hit is answered at once, and a call that joins a flight waits for it. A miss leads a
-//! flight: of a key of another node a wide one, whose leader asks the owner; where the owner gives no value, the leader enters again, for
-//! a local flight. The leader of a local flight loads the value and calls `complete`, which keeps it, lands the flights and wakes their
+//! `begin` asks the ring for the key's owner, before any cache is looked at. Then it enters the call under the group's lock: in the local
+//! class for a key of this node, in the wide one for another node's. A hit is answered at once, and a call that joins a flight waits for
+//! it. A miss leads a flight. The leader of a wide flight asks the owner; where the owner gives no value, the leader enters again, in the
+//! local class. The leader of a local flight loads the value and calls `complete`, which keeps it, lands the flights and wakes their
 //! followers.
 //!
 //! A key is loaded once. As two steps, a lookup and then a flight might load it twice:
@@ -32,13 +33,14 @@ ghost use Rattle.iiif_outcome.specs.Outcomes.{OutcomeFor};
 ghost use Rattle.iiif_singleflight.specs.Calls.{Counts};
 ghost use Rattle.iiif_singleflight.specs.Handles.{checked_class, checked_key, entered_of, followed, Ends, IsOf, MeetsFor};
 ghost use Rattle.iiif_group.specs.Beginning.{gate_of, open_key, AsksOwner, BegunOf, CountsOnce, CountsTwiceAtMost, HasAsked, IsAlone};
-ghost use Rattle.iiif_group.specs.Beginning.{HasNoOthers, IsPartOf, LoadsIf};
+ghost use Rattle.iiif_group.specs.Beginning.{cluster_of, FallsBackIf, HasNoOthers, IsPartOf, LoadsIf};
 ghost use Rattle.iiif_group.specs.Code.{AnswersFor, CanLand, ComesOf, CountsOnceAtMost, Finishes, IsAnswer, IsToldBy, Joins};
 ghost use Rattle.iiif_group.specs.Code.{OutcomeOf, Relays, Tells};
 ghost use Rattle.iiif_group.specs.Ending.{Completes};
-ghost use Rattle.iiif_group.specs.Leads.{answered_lead, answered_value, asked_lead, landing_lead, landing_outcome, peer_key};
+ghost use Rattle.iiif_group.specs.Leads.{answered_lead, answered_value, asked_lead, peer_key, peer_link, settled_lead, settled_outcome};
+ghost use Rattle.iiif_group.specs.Owners.{GivesNothing, OwnerGivesNothing};
 
-use crate::asked::{Answer, Answered, Asked, Landing, Peer};
+use crate::asked::{Answer, Answered, Asked, Peer, SettledFlight};
 use crate::begun::{Begun, Completed, Open};
 use crate::gate::{Ending, Gate, Note, Step};
 use crate::group::Group;
@@ -52,9 +54,9 @@ use iiif_tables::Class;
 use std::sync::ledger::Ledger;
 use std::sync::{Arc, Condvar, Wait};
 
-/// Outcome of a landing, as the leader of its flight is told it.
+/// End of a flight, as its leader is told it.
 #[derive(Drop)]
-pub struct Told<K: CacheKey, J: System, L: Ledger> {
+pub struct FlightEnd<K: CacheKey, J: System, L: Ledger> {
     /// The receipt of the flight's cell.
     pub(crate) receipt: Receipt<K, J, L>,
     /// The leader's outcome, where the cell refused it.
@@ -83,10 +85,13 @@ impl<K: CacheKey, J: System, L: Ledger, N, T> Group<K, J, L, N, T> {
         ensures gated { IfOk result (LoadsIf (T.passed (gate_of self.now) (K.key_bytes key.now))) }
         // A load is owed once the owner was asked, if that is another node.
         ensures asked { IfOk result (AsksOwner self.now (K.key_bytes key.now)) }
+        // It enters again, and owes a load in place of an owner, only where the owner's reply has no value of the key's shape.
+        ensures falls_back { IfOk result (FallsBackIf (OwnerGivesNothing N.replied (K.is_shaped J.pictures key.now) key.now
+            (cluster_of self.now) (K.key_bytes key.now)) pass.old pass.new) }
     {
         let bytes = key.bytes(self.alloc)?;
         match self.nodes.owner(&bytes) {
-            None => self.begin_own(rt, pass, key, &bytes),
+            None => self.begin_local_class(rt, pass, key, &bytes),
             Some(owner) => self.begin_others(rt, pass, key, shape, &bytes, &owner),
         }
     }
@@ -111,6 +116,8 @@ impl<K: CacheKey, J: System, L: Ledger, N, T> Group<K, J, L, N, T> {
         ensures counts { CountsTwiceAtMost pass.old pass.new result }
         ensures gated { IfOk result (LoadsIf (T.passed (gate_of self.now) bytes.now)) }
         ensures asked { IfOk result HasAsked }
+        ensures falls_back { IfOk result (FallsBackIf (GivesNothing N.replied (K.is_shaped J.pictures key.now) key.now
+            (peer_link owner.now)) pass.old pass.new) }
     {
         match self.enter(rt, pass, key, bytes, Class::Wide)? {
             Lookup::Hit(receipt) => Ok(Begun::Known(receipt)),
@@ -139,11 +146,11 @@ impl<K: CacheKey, J: System, L: Ledger, N, T> Group<K, J, L, N, T> {
         ensures alone { IfOk result IsAlone }
     {
         let bytes = key.bytes(self.alloc)?;
-        self.begin_own(rt, pass, key, &bytes)
+        self.begin_local_class(rt, pass, key, &bytes)
     }
 
     /// Looks up a key in the local class.
-    fn begin_own<R: Wait>(
+    fn begin_local_class<R: Wait>(
         &self,
         rt: &R,
         pass: &mut Pass<L>,
@@ -218,7 +225,8 @@ impl<K: CacheKey, J: System, L: Ledger, N, T> Group<K, J, L, N, T> {
         requires owner { K.key_bytes (checked_key wide) ≡ peer_key owner.now }
         requires class { checked_class wide ≡ Wide }
         requires part { IsPartOf K.CacheKey.own J.System (checked_key wide) shape.now }
-        ensures { AnswersFor wide result }
+        ensures { AnswersFor (GivesNothing N.replied (K.is_shaped J.pictures (checked_key wide)) (checked_key wide)
+            (peer_link owner.now)) wide result }
     {
         let (rank, ticket) = (wide.key().rank(), wide.ticket());
         self.note_ask(rt, (pass, rank, ticket), bytes, Step::Asked);
@@ -291,7 +299,7 @@ impl<K: CacheKey, J: System, L: Ledger, N, T> Group<K, J, L, N, T> {
         for _ in rt.forever() {
             match follower.look(state) {
                 Look::Landed(receipt) => return receipt,
-                Look::Open(sleeper) => {
+                Look::Pending(sleeper) => {
                     let (woken, locked) = sleeper.sleep(rt, &self.sleepers);
                     follower = woken;
                     state = locked;
@@ -319,7 +327,7 @@ impl<K: CacheKey, J: System, L: Ledger, N, T> Group<K, J, L, N, T> {
         let Open { local, wide } = load;
         match wide {
             None => {
-                let Told { receipt, refused } = self.finish_load(rt, local, outcome);
+                let FlightEnd { receipt, refused } = self.finish_load(rt, local, outcome);
                 Completed {
                     receipt,
                     loaded: None,
@@ -343,8 +351,8 @@ impl<K: CacheKey, J: System, L: Ledger, N, T> Group<K, J, L, N, T> {
         requires { IsAnswer (answered_lead answered) (answered_value answered) }
         ensures { IsOf (checked_key (answered_lead answered)) result }
     {
-        let landing = answered.into_landing(self.alloc);
-        self.finish(rt, landing).receipt
+        let settled = answered.settle(self.alloc);
+        self.finish(rt, settled).receipt
     }
 
     /// Lands a wide flight with the outcome of a local one of its key, and returns whether it has that outcome: it has lack of memory where
@@ -354,7 +362,7 @@ impl<K: CacheKey, J: System, L: Ledger, N, T> Group<K, J, L, N, T> {
         rt: &R,
         asked: Asked<K, J, L>,
         mut receipt: Receipt<K, J, L>,
-    ) -> (Told<K, J, L>, bool)
+    ) -> (FlightEnd<K, J, L>, bool)
     where
         T: Gate<R>,
         requires { IsOf (checked_key (asked_lead asked)) receipt }
@@ -370,14 +378,14 @@ impl<K: CacheKey, J: System, L: Ledger, N, T> Group<K, J, L, N, T> {
         rt: &R,
         local: CheckedLead<K, J, L>,
         outcome: Result<Arc<K::Value>, Fault>,
-    ) -> Told<K, J, L>
+    ) -> FlightEnd<K, J, L>
     where
         T: Gate<R>,
         requires class { checked_class local ≡ Local }
         requires outcome { OutcomeOf local outcome }
         ensures { Finishes local outcome result }
     {
-        self.finish(rt, Landing::of_load(local, outcome))
+        self.finish(rt, SettledFlight::from_load(local, outcome))
     }
 
     /// Lands a wide flight whose owner gave no value with an outcome of this node's own.
@@ -386,52 +394,52 @@ impl<K: CacheKey, J: System, L: Ledger, N, T> Group<K, J, L, N, T> {
         rt: &R,
         asked: Asked<K, J, L>,
         outcome: Result<Arc<K::Value>, Fault>,
-    ) -> Told<K, J, L>
+    ) -> FlightEnd<K, J, L>
     where
         T: Gate<R>,
         requires { OutcomeOf (asked_lead asked) outcome }
         ensures { Finishes (asked_lead asked) outcome result }
     {
-        self.finish(rt, asked.into_landing(outcome))
+        self.finish(rt, asked.settle(outcome))
     }
 
     /// Lands a flight and wakes who waits.
-    fn finish<R: Wait>(&self, rt: &R, landing: Landing<K, J, L>) -> Told<K, J, L>
+    fn finish<R: Wait>(&self, rt: &R, settled: SettledFlight<K, J, L>) -> FlightEnd<K, J, L>
     where
         T: Gate<R>,
-        requires { CanLand landing }
-        ensures { Finishes (landing_lead landing) (landing_outcome landing) result }
+        requires { CanLand settled }
+        ensures { Finishes (settled_lead settled) (settled_outcome settled) result }
     {
         let landed = if self.gate.records() {
-            self.land_noted(rt, landing)
+            self.land_noted(rt, settled)
         } else {
-            self.land(rt, landing)
+            self.land(rt, settled)
         };
         self.tell(rt, landed)
     }
 
     /// Lands a flight under the lock. Nobody is woken yet.
-    fn land<R: Wait>(&self, rt: &R, landing: Landing<K, J, L>) -> Completion<K, J, L>
-        requires { CanLand landing }
-        ensures { ComesOf (landing_lead landing) (landing_outcome landing) result }
+    fn land<R: Wait>(&self, rt: &R, settled: SettledFlight<K, J, L>) -> Completion<K, J, L>
+        requires { CanLand settled }
+        ensures { ComesOf (settled_lead settled) (settled_outcome settled) result }
     {
         let mut state = self.state.lock(rt);
-        landing.land(&mut *state)
+        settled.land(&mut *state)
     }
 
     /// Lands a flight and records it, both under one lock.
-    fn land_noted<R: Wait>(&self, rt: &R, landing: Landing<K, J, L>) -> Completion<K, J, L>
+    fn land_noted<R: Wait>(&self, rt: &R, settled: SettledFlight<K, J, L>) -> Completion<K, J, L>
     where
         T: Gate<R>,
-        requires { CanLand landing }
-        ensures { ComesOf (landing_lead landing) (landing_outcome landing) result }
+        requires { CanLand settled }
+        ensures { ComesOf (settled_lead settled) (settled_outcome settled) result }
     {
-        let lead = landing.lead();
+        let lead = settled.lead();
         let bytes = lead.key().bytes(self.alloc);
         let (class, rank, ticket) = (lead.class(), lead.key().rank(), lead.ticket());
-        let (ending, place) = (ending_of(landing.outcome()), landing.place());
+        let (ending, place) = (ending_of(settled.outcome()), settled.place());
         let mut state = self.state.lock(rt);
-        let landed = landing.land(&mut *state);
+        let landed = settled.land(&mut *state);
         let note = Note {
             step: Step::Landed(ending, place, landed.kept()),
             class,
@@ -450,15 +458,14 @@ impl<K: CacheKey, J: System, L: Ledger, N, T> Group<K, J, L, N, T> {
     /// Wakes the followers of a flight that landed, and tells its leader how it ended. Where the cell refused the leader's outcome, which
     /// no run meets, another of this flight stands in it, which those who joined learn too. A cell with none of this flight tells nobody:
     /// the leader then waits for good, as they do. Entries that were evicted are dropped here, behind the lock.
-    fn tell<R: Wait>(&self, rt: &R, landed: Completion<K, J, L>) -> Told<K, J, L>
+    fn tell<R: Wait>(&self, rt: &R, landed: Completion<K, J, L>) -> FlightEnd<K, J, L>
         ensures { Tells landed result }
     {
-        let ticket = landed.ticket();
         let is_own = landed.is_own();
-        let woken = self.sleepers.wake(ticket);
+        let woken = landed.wake(&self.sleepers);
         let (receipt, refused) = landed.into_receipt(woken);
         if is_own {
-            return Told { receipt, refused };
+            return FlightEnd { receipt, refused };
         }
         let unwoken = Condvar::new();
         let mut state = self.state.lock(rt);
@@ -471,13 +478,13 @@ impl<K: CacheKey, J: System, L: Ledger, N, T> Group<K, J, L, N, T> {
 
 /// Joins the ends of a local and a wide flight of one load: whether the wide one was given the same outcome is known.
 fn join<K: CacheKey, J: System, L: Ledger>(
-    local: Told<K, J, L>,
-    wide: Told<K, J, L>,
+    local: FlightEnd<K, J, L>,
+    wide: FlightEnd<K, J, L>,
     same: bool,
 ) -> Completed<K, J, L>
     ensures { Joins local wide same result }
 {
-    let Told { receipt, refused } = wide;
+    let FlightEnd { receipt, refused } = wide;
     Completed {
         receipt,
         loaded: Some(local.receipt),

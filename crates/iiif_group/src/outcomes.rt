@@ -1,14 +1,15 @@
-//! Shares of outcomes.
+//! Shares of outcomes, and the values of replies.
 
-ghost use Rattle.std.specs.Prelude.{◌≡◌};
+ghost use Rattle.std.specs.Prelude.{◌≡◌, Ok, IfNone, IfOk, IfSome, IsFalse, IsTrue};
 ghost use Rattle.std.specs.Result.{ForErr, ForOk};
 ghost use Rattle.std.specs.Arc.{arc_value};
 ghost use Rattle.iiif_keys.specs.declared.fault.Fault.{Fault};
 ghost use Rattle.iiif_outcome.specs.Outcomes.{OutcomeFor};
 ghost use Rattle.iiif_singleflight.specs.Handles.{IsOf};
-ghost use Rattle.iiif_group.specs.Beginning.{Shares};
+ghost use Rattle.iiif_group.specs.Beginning.{IsPartOf, Shares};
 
-use iiif_keys::{CacheKey, Fault, System};
+use crate::link::LinkFault;
+use iiif_keys::{CacheKey, Fault, Shape, System};
 use iiif_singleflight::Receipt;
 use std::alloc::Global;
 use std::sync::Arc;
@@ -48,4 +49,20 @@ pub fn take_outcome<K: CacheKey, J: System, L: Ledger>(
     ensures { OutcomeFor K.CacheKey.own J.System key.now result }
 {
     share_outcome(receipt.outcome()).0
+}
+
+/// Returns the value of a reply, if it has one of the key's shape.
+pub(crate) fn value_in<K: CacheKey, J: System>(
+    key: &K,
+    shape: &Shape,
+    reply: Result<K::Value, LinkFault>,
+) -> Option<K::Value>
+    requires { IsPartOf K.CacheKey.own J.System key.now shape.now }
+    ensures some { IfSome result (λ v. (reply ≡ Ok v) × IsTrue (K.is_shaped J.pictures key.now v)) }
+    ensures none { IfNone result (IfOk reply (λ v. IsFalse (K.is_shaped J.pictures key.now v))) }
+{
+    match reply {
+        Ok(value) if key.shaped(shape, &value) => Some(value),
+        _ => None,
+    }
 }

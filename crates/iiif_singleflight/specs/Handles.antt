@@ -4,10 +4,14 @@
 --   IsOf                                         a receipt of a key
 --   MeetsFor, entered_of                         an answer for a class and a key, and as a table gives it
 --   Ends, Finds                                  a receipt of a flight, and a follower's look
-use Rattle.std.specs.Prelude.{◌≡◌, ℕ, IfSome}
+use Rattle.std.specs.Prelude.{◌≡◌, ◌≢◌, ◌⊎◌, ℕ, IfSome, IsFalse}
 use Rattle.std.specs.Arc.{arc_value}
+use Rattle.std.specs.Option.{ForSome}
+use Rattle.std.specs.declared.cmp.PartialEq as partial_eq
+use Rattle.iiif_keys.specs.declared.cache_key.CacheKey as cache_key
+use Rattle.iiif_keys.specs.declared.system.System as system
 use Rattle.iiif_tables.specs.declared.table.Class.{Class}
-use Rattle.iiif_outcome.specs.Views.{flight_cell, flight_key, flight_ticket, lead_cell, lead_class, lead_key, lead_ticket}
+use Rattle.iiif_outcome.specs.Views.{flight_cell, flight_key, flight_known, flight_ticket, lead_cell, lead_class, lead_key, lead_ticket}
 use Rattle.iiif_outcome.specs.Views.{receipt_cell, receipt_known, receipt_ticket}
 use Rattle.iiif_outcome.specs.declared.flight.Flight.{Flight}
 use Rattle.iiif_outcome.specs.declared.lead.Lead.{Lead}
@@ -19,7 +23,7 @@ use Rattle.iiif_singleflight.specs.declared.entered.Lookup.{Lookup}
 use Rattle.iiif_singleflight.specs.declared.entered.Lookup.TheVariants.{Hit, Joined, Leads}
 use Rattle.iiif_singleflight.specs.declared.follower.Follower.{Follower}
 use Rattle.iiif_singleflight.specs.declared.follower.Look.{Look}
-use Rattle.iiif_singleflight.specs.declared.follower.Look.TheVariants.{Landed, Open}
+use Rattle.iiif_singleflight.specs.declared.follower.Look.TheVariants.{Landed, Pending}
 use Rattle.iiif_singleflight.specs.declared.follower.Sleeper.{Sleeper}
 
 module _ {K J L V : Type 0} {a b c d : _} where
@@ -66,13 +70,15 @@ module _ {K J L V : Type 0} {a b c d : _} where
     -- its outcome is of the flight's key
     pub key : IsOf (flight_key joined) receipt
 
-module _ {K J L V : Type 0} {a b c d e : _} where
+module _ {K J L V : Type 0} {a : cache_key.Ghosts K V} {b : partial_eq.Ghosts K} {c : _} {d : system.Ghosts J} {e : _} where
   -- the flight that was looked at in vain
   abbrev pub slept : Sleeper K J L V a b c d e → Flight K J L V a b c d
   slept s = s.flight
 
-  -- a follower looks at this flight: it has landed, or it is still the same one
+  -- A follower looks at this flight: it has landed; or it is still the same one, in whose cell an outcome of this flight isn't known. So it
+  -- is after a look alone.
   abbrev pub Finds : Flight K J L V a b c d → Look K J L V a b c d e → Type 0
   Finds joined (Landed r) = Ends joined r
-  Finds joined (Open s) = (flight_key (slept s) ≡ flight_key joined) × (flight_cell (slept s) ≡ flight_cell joined)
+  Finds joined (Pending s) = (flight_key (slept s) ≡ flight_key joined) × (flight_cell (slept s) ≡ flight_cell joined)
       × (flight_ticket (slept s) ≡ flight_ticket joined)
+      × ForSome (flight_known (slept s)) (λ x. (x.ticket ≢ flight_ticket joined) ⊎ IsFalse (b.eq (arc_value x.key) (flight_key joined)))

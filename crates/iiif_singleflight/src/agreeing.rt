@@ -33,7 +33,7 @@ pub fn who_joins_learns_what_lands<K: CacheKey, J: System, L: Ledger>(
     let class = lead.class();
     let entered = table.enter(pass, lead.key(), class);
     let completion = table.land(lead, outcome, place);
-    let woken = waiting.wake(completion.ticket());
+    let woken = completion.wake(waiting);
     let (mut receipt, _refused) = completion.into_receipt(woken);
     let flight = match entered {
         Ok(Entered::Joined(flight)) => flight,
@@ -61,6 +61,6 @@ fn give_up<K: CacheKey, J: System, L: Ledger>(
     waiting: &FlightCondvar<L>,
 ) {
     let completion = table.land(lead, Err(Fault::NoMemory), Place::Nowhere);
-    let woken = waiting.wake(completion.ticket());
+    let woken = completion.wake(waiting);
     drop(completion.into_receipt(woken));
 }

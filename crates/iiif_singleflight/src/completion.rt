@@ -1,6 +1,6 @@
 //! Flights that have landed, before their callers know.
 
-use crate::flight_condvar::Woken;
+use crate::flight_condvar::{FlightCondvar, Woken};
 use iiif_byte_cache::Evicted;
 use iiif_keys::{CacheKey, System};
 use iiif_outcome::{Entry, Landed, Receipt};
@@ -27,13 +27,6 @@ impl<K: CacheKey, J: System, L> Completion<K, J, L> {
     ghost use Rattle.iiif_singleflight.specs.Completions.{completion_cell, completion_kept, completion_known, completion_own};
     ghost use Rattle.iiif_singleflight.specs.Completions.{completion_refused, completion_ticket, told_ticket};
 
-    /// Returns the number of the flight that landed, by which its callers are woken.
-    pub fn ticket(&self) -> u64
-        ensures { result ≡ completion_ticket self.now }
-    {
-        self.ticket
-    }
-
     /// Returns whether the outcome that stands in the cell is of the flight that landed. Else the cell was given to two.
     pub fn is_own(&self) -> bool
         ensures { result ≡ completion_own self.now }
@@ -46,6 +39,13 @@ impl<K: CacheKey, J: System, L> Completion<K, J, L> {
         ensures { result ≡ completion_kept self.now }
     {
         self.evicted.is_some()
+    }
+
+    /// Wakes the callers that joined the flight, by its number. It has landed, so none of them sleeps on.
+    pub fn wake(&self, waiting: &FlightCondvar<L>) -> Woken<L>
+        ensures { result.ticket ≡ completion_ticket self.now }
+    {
+        waiting.wake(self.ticket)
     }
 
     /// Takes out the receipt of what stands in the cell, once the flight's callers were woken, and drops the entries that were

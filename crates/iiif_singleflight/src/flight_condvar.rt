@@ -31,12 +31,12 @@ impl<L> FlightCondvar<L> {
     }
 
     /// Returns the condition variable of a flight.
-    pub(crate) fn of(&self, ticket: u64) -> &Condvar {
-        self.stripes.of(ticket)
+    pub(crate) fn stripe(&self, ticket: u64) -> &Condvar {
+        self.stripes.stripe(ticket)
     }
 
     /// Wakes the followers of the flight with a ticket.
-    pub fn wake(&self, ticket: u64) -> Woken<L>
+    pub(crate) fn wake(&self, ticket: u64) -> Woken<L>
         ensures { result.ticket ≡ ticket }
     {
         self.stripes.wake(ticket);

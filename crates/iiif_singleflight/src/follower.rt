@@ -27,7 +27,7 @@ pub enum Look<'a, K: CacheKey, J: System, L: Ledger> {
     /// The flight landed.
     Landed(Receipt<K, J, L>),
     /// The flight is still open.
-    Open(Sleeper<'a, K, J, L>),
+    Pending(Sleeper<'a, K, J, L>),
 }
 
 impl<K: CacheKey, J: System, L: Ledger> Follower<K, J, L> {
@@ -52,7 +52,7 @@ impl<K: CacheKey, J: System, L: Ledger> Follower<K, J, L> {
         let Follower { flight } = self;
         match flight.learn() {
             Ok(receipt) => Look::Landed(receipt),
-            Err(flight) => Look::Open(Sleeper { flight, state }),
+            Err(flight) => Look::Pending(Sleeper { flight, state }),
         }
     }
 }
@@ -69,7 +69,7 @@ impl<'a, K: CacheKey, J: System, L: Ledger> Sleeper<'a, K, J, L> {
         ensures { followed result.0 ≡ slept self.entry }
     {
         let Sleeper { flight, state } = self;
-        let state = condvar.of(flight.ticket()).wait(rt, state);
+        let state = condvar.stripe(flight.ticket()).wait(rt, state);
         (Follower { flight }, state)
     }
 }

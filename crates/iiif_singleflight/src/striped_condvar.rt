@@ -35,12 +35,12 @@ impl StripedCondvar {
     }
 
     /// Returns the condition variable of a number, to wait on.
-    pub fn of(&self, number: u64) -> &Condvar {
+    pub fn stripe(&self, number: u64) -> &Condvar {
         &self.stripes[(number % 16) as usize]
     }
 
     /// Wakes the callers that wait for a number.
     pub fn wake(&self, number: u64) {
-        self.of(number).notify_all();
+        self.stripe(number).notify_all();
     }
 }

@@ -8,6 +8,7 @@ use Rattle.iiif_keys.specs.declared.keys.SumKey.{SumKey}
 use Rattle.iiif_keys.specs.declared.system.System as system
 use Rattle.iiif_keys.specs.declared.values.SumVal.{SumVal}
 use Rattle.iiif_outcome.specs.declared.receipt.Receipt.{Receipt}
+use Rattle.iiif_singleflight.specs.View.{wide_leads}
 use Rattle.iiif_group.specs.Beginning.{BegunFor}
 use Rattle.iiif_group.specs.declared.begun.Begun.{Begun}
 use Rattle.iiif_tile_group.specs.Faults.{IsLoadFault}
@@ -83,6 +84,8 @@ module _ {J L : Type 0} {a b c : _} {d : system.Ghosts J} {e : _} where
         (d.gave key.name))
     -- The call entered, and was counted: once or, where another node was asked in vain, twice.
     pub counted : OnOk result ((old.sum.gets + 1 ≤ new.sum.gets) × (new.sum.gets ≤ old.sum.gets + 2))
+    -- It entered again only where it led a wide flight: who owes the load doesn't enter the block once more, and wait for itself.
+    pub again : OnOk result (new.sum.gets + wide_leads old.sum ≤ old.sum.gets + 1 + wide_leads new.sum)
     -- A refused call isn't counted.
     pub refused : OnErr result (new.sum.gets ≡ old.sum.gets)
     -- The pass has as many parts as before.

@@ -95,7 +95,7 @@ fn look_and_land<L: Ledger>(
         Err(_) => (Err(Fault::NoMemory), Place::Nowhere),
     };
     let completion = home.table.land(lead, outcome, place);
-    let woken = home.condvar.wake(completion.ticket());
+    let woken = completion.wake(&home.condvar);
     completion.into_receipt(woken).0
 }
 
@@ -412,7 +412,7 @@ fn follow<L: Ledger, R: Wait>(
     for _ in rt.forever() {
         match follower.look(guard) {
             Look::Landed(receipt) => return receipt,
-            Look::Open(sleeper) => {
+            Look::Pending(sleeper) => {
                 let (woken, locked) = sleeper.sleep(rt, condvar);
                 follower = woken;
                 guard = locked;
@@ -439,7 +439,7 @@ fn end<L: Ledger, R: Wait>(
         Lookup::Leads(lead) => {
             let outcome = landing_of(alloc, Ok(42));
             let completion = state.lock(rt).land(lead, outcome, Place::Main);
-            let woken = condvar.wake(completion.ticket());
+            let woken = completion.wake(condvar);
             ("leads", completion.into_receipt(woken).0)
         }
     };

@@ -14,7 +14,7 @@ use iiif_peer_wire::{Version, WireFault, read_ask};
 use iiif_pixel::{Depth, Dim, Kind};
 use std::alloc::Global;
 use std::io::{ErrorKind, Read, Write};
-use std::net::{Net, TcpListener, TcpStream};
+use std::net::{Net, SocketAddr, TcpListener, TcpStream};
 use std::sync::Wait;
 use std::test::Fail;
 use std::thread::Threads;
@@ -378,6 +378,8 @@ struct Looker<'a> {
     alloc: Global,
     node: &'a Peer,
     log: &'a Log,
+    /// Where whoever looks answers nodes itself, if anywhere.
+    own: Option<SocketAddr>,
 }
 
 impl<'a, R: Net<Stream = TcpStream> + Clock + Wait> Act<R> for Looker<'a> {
@@ -385,7 +387,7 @@ impl<'a, R: Net<Stream = TcpStream> + Clock + Wait> Act<R> for Looker<'a> {
 
     /// Whether the node is asked then.
     fn act(&self, rt: &R) -> State {
-        self.node.look(rt, self.alloc, Some(self.log));
+        self.node.look(rt, self.alloc, Some(self.log), self.own.as_ref());
         self.node.health().state(rt)
     }
 }
@@ -424,12 +426,70 @@ fn node_that_hangs_is_found_silent_by_a_look(rt: HostRuntime) -> Result<(), Fail
         alloc,
         node: &node,
         log: &log,
+        own: None,
     };
     assert!(rt; is_looked_at(&rt, &listener, &looker));
     assert!(rt; is_same(&ends_of(&node.health().asks(&rt)), &[0; 5]));
     let written = written(&rt, alloc, &log);
     let text = str::from_utf8(&written)?;
     assert!(rt; has_end(text.as_bytes(), TURNS.0.as_bytes()) && is_same(&text.lines().count(), &1));
+    Ok(())
+}
+
+#[test]
+fn node_that_a_look_finds_to_be_the_own_one_is_told_once_and_not_asked(
+    rt: HostRuntime,
+) -> Result<(), Fail> {
+    let alloc = rt.alloc();
+    let (listener, node) = listening(&rt, alloc).ok_or("no listener")?;
+    node.look_up(&rt, alloc);
+    let (watch, log) = (Stopwatch::new(), Log::new(alloc)?);
+    let looker = Looker {
+        alloc,
+        node: &node,
+        log: &log,
+        own: Some(listener.local_addr()?),
+    };
+    let ender = Ender {
+        listener: &listener,
+    };
+    for _ in 0..2u32 {
+        assert!(rt; two(&rt, &ender, &looker) == (true, ASKED));
+    }
+    assert!(rt; node.health().is_itself(&rt));
+    let link = link_to(alloc, &node, &watch, Some(&log));
+    assert!(rt; is_same(&Asker { alloc, link: &link }.act(&rt), &LOST));
+    assert!(rt; is_same(&ends_of(&node.health().asks(&rt)), &[0; 5]));
+    let written = written(&rt, alloc, &log);
+    let text = str::from_utf8(&written)?;
+    let is_told = has_end(text.as_bytes(), b" peer node\\x20two itself\n");
+    assert!(rt; is_told && is_same(&text.lines().count(), &1));
+    Ok(())
+}
+
+#[test]
+fn image_that_a_node_refuses_is_told_once_and_not_asked_for(rt: HostRuntime) -> Result<(), Fail> {
+    let alloc = rt.alloc();
+    let (listener, node) = listening(&rt, alloc).ok_or("no listener")?;
+    node.look_up(&rt, alloc);
+    let (watch, log) = (Stopwatch::new(), Log::new(alloc)?);
+    let link = link_to(alloc, &node, &watch, Some(&log));
+    let way = Way::Sends(UNKNOWN_REPLY);
+    let taker = Taker {
+        alloc,
+        listener: &listener,
+        way: &way,
+    };
+    let asker = Asker { alloc, link: &link };
+    let refused = Some((Err(LinkFault::Refused(3)), true));
+    assert!(rt; is_same(&two(&rt, &taker, &asker), &(true, refused)));
+    assert!(rt; is_same(&asker.act(&rt), &LOST));
+    assert!(rt; is_same(&node.refusals().count(&rt), &1));
+    assert!(rt; is_same(&ends_of(&node.health().asks(&rt)), &[0, 1, 0, 0, 0]));
+    let written = written(&rt, alloc, &log);
+    let text = str::from_utf8(&written)?;
+    let is_told = has_end(text.as_bytes(), b" refused-image node\\x20two g\n");
+    assert!(rt; is_told && is_same(&text.lines().count(), &1));
     Ok(())
 }
 

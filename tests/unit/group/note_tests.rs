@@ -2,112 +2,24 @@
 
 use crate::fixtures::names::name;
 use crate::fixtures::{is_missing, is_same};
-use crate::group::bars::TURNS;
 use crate::group::keys::SAMPLE;
-use crate::group::nodes::{ROOMY, ring};
-use crate::samples::{Lax, Sample};
-use iiif_group::{Begun, Cluster, Ending, Gate, Group, NoLink, Note, Step, share};
-use iiif_keys::{Fault, PARTS};
+use crate::group::recorders::{LED, Noted, Recorded, Recorder, group_at, loaded, wait_for};
+use crate::samples::Sample;
+use iiif_group::{Begun, Ending, NoLink, Step};
 use iiif_singleflight::Pass;
-use iiif_source::ReadFault;
 use iiif_tables::{Class, Place};
 use std::alloc::Global;
 use std::marker::Brand;
-use std::num::NonZeroUsize;
-use std::sync::ledger::Blank;
-use std::sync::{Arc, Mutex, Wait};
+use std::sync::Wait;
 use std::thread;
 use std::thread::Threads;
-use std::time::{Clock, Duration};
-
-/// Note as it was taken, with the number of the key that has its bytes.
-#[derive(Clone, Copy, Debug, PartialEq)]
-struct Noted {
-    step: Step,
-    class: Class,
-    rank: u32,
-    pass: u64,
-    ticket: u64,
-    number: Option<u8>,
-}
-
-/// Gate that lets each load begin at once and keeps the notes.
-#[derive(Drop)]
-struct Recorder {
-    notes: Mutex<Vec<Noted>>,
-}
-
-/// Returns the number of the sample's key that has these bytes. None where no key has them.
-fn number_of(bytes: &[u8]) -> Option<u8> {
-    match bytes {
-        [0, 1, b'a', 0, 0, 0, 1, 0, 0, 0, number, 0, 0, 0, 0] => Some(*number),
-        _ => None,
-    }
-}
-
-impl<R: Wait> Gate<R> for Recorder {
-    ghost passed = { λ _ _. ⊤ };
-
-    fn pass(&self, _rt: &R, _key_bytes: &[u8]) {}
-
-    fn records(&self) -> bool {
-        true
-    }
-
-    fn note(&self, rt: &R, note: &Note<'_>) {
-        let noted = Noted {
-            step: note.step,
-            class: note.class,
-            rank: note.rank,
-            pass: note.pass,
-            ticket: note.ticket,
-            number: number_of(note.key),
-        };
-        let _kept = self.notes.lock(rt).push(noted);
-    }
-}
-
-type Recorded<'a> = Group<Sample, Lax, Brand, NoLink, &'a Recorder>;
-
-/// Creates the group of the ring's only node, or of a node beside it. The link to that one refuses.
-fn group_at<'a>(alloc: Global, gate: &'a Recorder, own: Option<usize>) -> Option<Recorded<'a>> {
-    let ring = ring(alloc).ok()?;
-    let links = Vec::from_array(alloc, [NoLink]).ok()?;
-    let entries = NonZeroUsize::new(8)?;
-    let cluster = Cluster { ring, own, links };
-    Group::new(alloc, ROOMY, entries, gate, cluster, Blank::new(PARTS)).ok()
-}
-
-/// Waits until so many calls have led, and so many have joined.
-fn wait_for<R: Wait + Clock>(rt: &R, group: &Recorded<'_>, leads: u64, joins: u64) {
-    for _ in 0..TURNS {
-        let book = group.book(rt);
-        if book.leads >= leads && book.joins >= joins {
-            return;
-        }
-        thread::sleep(rt, Duration::from_millis(1));
-    }
-}
-
-/// The fault of a read at place 3.
-const FAULT: Fault = Fault::Source(ReadFault {
-    place: 3,
-    cause: ReadFault::FAILED,
-});
-
-/// Returns the outcome of a load, of a value or with that fault.
-fn loaded(alloc: Global, fails: bool) -> Result<Arc<u16>, Fault> {
-    if fails {
-        return Err(FAULT);
-    }
-    share(alloc, 42)
-}
+use std::time::Clock;
 
 /// Calls for the key of a number, and completes its load once so many calls have joined; hands the pass back.
 fn call<R: Wait + Clock>(
     rt: &R,
     alloc: Global,
-    group: &Recorded<'_>,
+    group: &Recorded<'_, NoLink>,
     mut pass: Pass<Brand>,
     number: u32,
     joins: u64,
@@ -129,7 +41,7 @@ fn call<R: Wait + Clock>(
 fn meet_hit_fail_refuse<R: Threads + Wait + Clock + Sync>(
     rt: &R,
     alloc: Global,
-    group: &Recorded<'_>,
+    group: &Recorded<'_, NoLink>,
 ) -> Option<Pass<Brand>> {
     let one = group.pass(rt)?;
     let two = group.pass(rt)?;
@@ -146,16 +58,6 @@ fn meet_hit_fail_refuse<R: Threads + Wait + Clock + Sync>(
     let pass = call(rt, alloc, group, pass, 2, 1, true)?;
     call(rt, alloc, group, pass, Sample::UNCOPIED, 1, false)
 }
-
-/// The first call of the first pass leads.
-const LED: Noted = Noted {
-    step: Step::Led,
-    class: Class::Local,
-    rank: Sample::RANK,
-    pass: 1,
-    ticket: 1,
-    number: Some(1),
-};
 
 const OF_OWN_KEYS: &[Noted] = &[
     LED,
@@ -200,18 +102,15 @@ fn are_noted<R: Threads + Wait + Clock + Sync>(
     owns: bool,
     want: &[Noted],
 ) -> Option<bool> {
-    let gate = Recorder {
-        notes: Mutex::new(Vec::new(alloc)),
-    };
-    let group = group_at(alloc, &gate, if owns { Some(0) } else { None })?;
+    let gate = Recorder::new(alloc);
+    let group = group_at(alloc, &gate, if owns { Some(0) } else { None }, NoLink)?;
     let _pass = if owns {
         meet_hit_fail_refuse(rt, alloc, &group)?
     } else {
         let pass = call(rt, alloc, &group, group.pass(rt)?, 1, 0, false)?;
         call(rt, alloc, &group, pass, 1, 0, false)?
     };
-    let notes = gate.notes.lock(rt);
-    Some(is_same(&notes.as_slice(), &want))
+    Some(is_same(&gate.noted(rt, alloc)?.as_slice(), &want))
 }
 
 #[test]

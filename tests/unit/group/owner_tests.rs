@@ -1,4 +1,4 @@
-//! Three nodes of one ring, each with a link to every place: which of them a node asks for a key.
+//! Three nodes of one ring, each with a link to every place: which of them a node asks for a key, and what it keeps.
 
 use crate::fixtures::is_same;
 use crate::fixtures::names::name;
@@ -66,23 +66,53 @@ fn load_all<R: Wait>(
     Some(())
 }
 
-/// The keys for which the node of this place asks others, in their order, where it loads all.
-fn asked_by<R: Wait>(rt: &R, alloc: Global, own: usize) -> Option<Asked> {
-    let asked = Mutex::new(Vec::new(alloc));
-    let links = [0, 1, 2].map(|place| NotingLink {
-        place,
-        asked: &asked,
-    });
+/// The group of the node of this place, which keeps eight entries a list.
+fn group_at<'a>(
+    alloc: Global,
+    own: usize,
+    asked: &'a Mutex<Asked>,
+    blank: Blank,
+) -> Option<Group<Sample, Lax, Brand, NotingLink<'a>, NoGate>> {
+    let links = [0, 1, 2].map(|place| NotingLink { place, asked });
     let cluster = Cluster {
         ring: ring_of_three(alloc)?,
         own: Some(own),
         links: Vec::from_array(alloc, links).ok()?,
     };
     let entries = NonZeroUsize::new(8)?;
-    let blank = Blank::new(PARTS);
-    let group = Group::new(alloc, ROOMY, entries, NoGate, cluster, blank).ok()?;
+    Group::new(alloc, ROOMY, entries, NoGate, cluster, blank).ok()
+}
+
+/// The keys for which the node of this place asks others, in their order, where it loads all.
+fn asked_by<R: Wait>(rt: &R, alloc: Global, own: usize) -> Option<Asked> {
+    let asked = Mutex::new(Vec::new(alloc));
+    let group = group_at(alloc, own, &asked, Blank::new(PARTS))?;
     load_all(rt, alloc, &group)?;
     Vec::from_slice(alloc, &asked.lock(rt)).ok()
+}
+
+/// The numbers of the keys whose values the node of the first place holds.
+fn held_in<R: Wait>(
+    rt: &R,
+    alloc: Global,
+    group: &Group<Sample, Lax, Brand, NotingLink<'_>, NoGate>,
+) -> Option<Vec<u32>> {
+    let mut held = Vec::new(alloc);
+    for (number, _) in (0u32..).zip(OWNERS.iter()) {
+        if group.holds(rt, &Sample::new(name(alloc, "a")?, number)) {
+            held.push(number).ok()?;
+        }
+    }
+    Some(held)
+}
+
+/// What that node holds before it loads all the keys, and behind that.
+fn held_around<R: Wait>(rt: &R, alloc: Global) -> Option<(Vec<u32>, Vec<u32>)> {
+    let asked = Mutex::new(Vec::new(alloc));
+    let group = group_at(alloc, 0, &asked, Blank::new(PARTS))?;
+    let before = held_in(rt, alloc, &group)?;
+    load_all(rt, alloc, &group)?;
+    Some((before, held_in(rt, alloc, &group)?))
 }
 
 /// The keys that other nodes own than the one of this place, and the places of their owners.
@@ -103,4 +133,11 @@ fn each_of_three_nodes_asks_a_keys_owner_once_and_nobody_for_its_own(rt: HostRun
         let want = of_others(rt.alloc(), own);
         assert!(rt; is_same(&asked, &want), "node {own}");
     }
+}
+
+#[test]
+fn node_holds_the_eight_values_that_it_loaded_last(rt: HostRuntime) {
+    let want = Vec::from_array(rt.alloc(), [8u32, 9, 10, 11, 12, 13, 14, 15]).ok();
+    let want = want.map(|last| (Vec::new(rt.alloc()), last));
+    assert!(rt; is_same(&held_around(&rt, rt.alloc()), &want));
 }

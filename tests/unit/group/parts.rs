@@ -23,7 +23,7 @@ use std::thread::Threads;
 use std::time::{Clock, Duration};
 
 /// The level of the block: the least one whose parts its caller gets.
-const LEVEL: u8 = 4;
+const LEVEL: u8 = 3;
 
 /// A thread that calls for the block of `a` whole at this level. Where it leads, it gets no part until the other call has joined.
 #[derive(Drop)]

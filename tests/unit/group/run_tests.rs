@@ -145,6 +145,7 @@ static EACH_CALL: [Case; 4] = [
             then: &[
                 (Step::Sums(Call::Load, 1, 0), Ok(HALVED)),
                 (Step::Sums(Call::GetLocal, 1, 0), Ok(HALVED)),
+                (Step::Sums(Call::GetLocal, 1, 0), Ok(HALVED)),
             ],
             hands_in: false,
         }),
@@ -159,14 +160,14 @@ static EACH_CALL: [Case; 4] = [
                 },
                 5,
             ),
-            // The four parts are loaded for a load, and hit for a flight.
+            // The four parts are loaded for a load, and hit for a flight. Then the sums are hit, and no part is asked for.
             sums: (
                 Book {
-                    gets: 9,
-                    hits: 4,
+                    gets: 10,
+                    hits: 5,
                     ..FIVE
                 },
-                9,
+                10,
             ),
             done: ([1, 2, 1, 1], 9),
             ..QUIET
