@@ -28,7 +28,7 @@ use std::alloc::Global;
 use std::sync::Wait;
 use std::thread::Threads;
 
-/// The part in `from` of the scaled result.
+/// Makes the part in `from` of the scaled result.
 fn scale_part<
     A: Items<TileKey, TileVal, P, R> + Sync,
     B: Items<SumKey, SumVal, P, R> + Sync,
@@ -63,7 +63,7 @@ fn scale_part<
     }
 }
 
-/// A part turned. For a moment both are held.
+/// Turns a part. For a moment both are held.
 fn apply_turn(made: Made, by: Turn) -> Result<Made, Fault>
     requires { by.quarters < 4 }
     ensures ok { IfOk result (λ m. m.raster ≡ turn made.raster by) }
@@ -82,7 +82,7 @@ fn apply_turn(made: Made, by: Turn) -> Result<Made, Fault>
     }
 }
 
-/// A part in another quality. For a moment both are held.
+/// Converts a part to a quality. For a moment both are held.
 fn apply_quality(made: Made, to: Quality) -> Result<Made, Fault>
     ensures ok { IfOk result (λ m. m.raster ≡ quality made.raster to) }
     ensures held { IsWithin (count_of made.raster) made.held → IfOk result (λ m. IsWithin (count_of made.raster) m.held) }
@@ -206,7 +206,7 @@ pub fn assemble<
     // Laws of pictures and of bands.
     whole_stays_whole();
     bands_follow();
-    match image.whole(alloc, resolved, plan) {
+    match image.full_band(alloc, resolved, plan) {
         Ok(band) => assemble_band(
             rt, alloc, groups, passes, resolved, plan, image, &band, held,
         ),

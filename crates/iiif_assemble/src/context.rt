@@ -1,4 +1,4 @@
-//! Where images are made.
+//! Contexts in which images are made.
 
 use std::alloc::Global;
 
@@ -11,7 +11,7 @@ pub struct ItemGroups<'a, A, B> {
     pub sums: &'a B,
 }
 
-/// Where images are made: who has the values of tiles and of sums, and what it takes to ask for them.
+/// Context in which images are made: the groups that answer for tiles and sums, and the runtime and allocator to ask them with.
 #[derive(Drop)]
 pub struct RenderContext<'a, A, B, R> {
     /// The runtime.

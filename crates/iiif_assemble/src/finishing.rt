@@ -14,7 +14,7 @@ use rayon::prelude::*;
 use std::alloc::Global;
 use std::thread::Threads;
 
-/// So many sums are rounded by the calling thread alone. Shared out by `rayon` each took some 20 ns of processor time, in a program that
+/// The most sums that the calling thread rounds alone. Shared out by `rayon` each took some 20 ns of processor time, in a program that
 /// rounded few for each answer; the loop over them has no call.
 const FEW: usize = 1_048_576;
 
@@ -28,7 +28,7 @@ fn run_len(count: usize, workers: usize) -> usize
     count.div_ceil(workers.max(1)).max(LEAST)
 }
 
-/// The samples of 8 bits of sums, in their order, whoever makes them.
+/// Rounds sums to samples of 8 bits, in their order, whichever threads do it.
 fn rounded_eight<R: Threads + Sync>(
     rt: &R,
     alloc: Global,
@@ -50,7 +50,7 @@ fn rounded_eight<R: Threads + Sync>(
         .collect(rt, alloc)
 }
 
-/// Those of 16 bits.
+/// Rounds sums to samples of 16 bits, in the same way.
 fn rounded_sixteen<R: Threads + Sync>(
     rt: &R,
     alloc: Global,
@@ -72,7 +72,7 @@ fn rounded_sixteen<R: Threads + Sync>(
         .collect(rt, alloc)
 }
 
-/// The samples of a depth of sums, in their order.
+/// Rounds sums to samples of a depth, in their order.
 fn rounded_all<R: Threads + Sync>(
     rt: &R,
     alloc: Global,
@@ -97,7 +97,7 @@ fn rounded_all<R: Threads + Sync>(
     }
 }
 
-/// How many samples a raster has.
+/// Counts the samples of a raster.
 pub(crate) fn count_of(raster: &Raster) -> u64
     ensures count { result ≡ count_of raster.now }
     ensures small { result < 2 ^ 63 }
@@ -108,7 +108,7 @@ pub(crate) fn count_of(raster: &Raster) -> u64
     }
 }
 
-/// Whether the calling thread rounds the sums of so many places alone.
+/// Returns whether the calling thread rounds the sums of so many places alone.
 pub(crate) fn are_few(kind: Kind, dim: Dim) -> bool
     ensures { IsTrue result ↔ dim.w * dim.h * channels_of kind ≤ 1048576 }
 {
@@ -118,7 +118,7 @@ pub(crate) fn are_few(kind: Kind, dim: Dim) -> bool
     }
 }
 
-/// The samples of a depth that sums over the whole of a region make, at all their places, by so many threads at most.
+/// Makes samples of a depth of sums over the whole of a region, at all their places, by so many threads at most.
 fn finish_many<R: Threads + Sync>(
     rt: &R,
     alloc: Global,
@@ -137,7 +137,7 @@ fn finish_many<R: Threads + Sync>(
     Ok(Raster::from_samples(total.rect().dim(), total.kind(), samples))
 }
 
-/// The samples of a depth that sums over the whole of a region make, at all their places: many by so many threads at most.
+/// Makes samples of a depth of sums over the whole of a region, at all their places: many of them by so many threads at most.
 pub(crate) fn finish_all<R: Threads + Sync>(
     rt: &R,
     alloc: Global,

@@ -34,7 +34,7 @@ use std::alloc::Global;
 use std::sync::{Arc, Wait};
 use std::thread::Threads;
 
-/// Adds what a tile has of a region that is scaled to `size`.
+/// Adds the samples that a tile has of a region that is scaled to `size`.
 fn add(
     total: &mut Sums,
     shape: &Shape,
@@ -55,7 +55,7 @@ fn add(
     total.add_tile(&value.raster, key.rect_in(shape.dim), region, size);
 }
 
-/// Adds what tiles have of a region that is scaled, one after another.
+/// Adds the samples that tiles have of a region that is scaled, tile by tile.
 fn add_all(
     total: &mut Sums,
     shape: &Shape,
@@ -88,7 +88,7 @@ fn add_all(
     }
 }
 
-/// The part in `from` of a result that has a side above its region's, of the tiles that have samples for a place of it. Nothing
+/// Makes the part in `from` of a result that has a side above its region's, of the tiles that have samples for a place of it. Nothing
 /// is held of the result but its sums at these places, and then the samples.
 pub(crate) fn grow<A: Items<TileKey, TileVal, P, R> + Sync, B, P: Send, R: Threads + Wait + Sync>(
     context: &RenderContext<'_, A, B, R>,

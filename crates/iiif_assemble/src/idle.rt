@@ -1,6 +1,6 @@
 //! Idle workers.
 
-ghost use Rattle.std.specs.Prelude.{◌≡◌, ◌<◌, [], IfOk, IfSome, length, true};
+ghost use Rattle.std.specs.Prelude.{◌≡◌, ◌-◌, ◌<◌, [], IfOk, IfSome, length, max, true};
 
 use std::alloc::{AllocError, Global};
 use std::sync::{Mutex, Wait};
@@ -17,6 +17,13 @@ impl<'x, 'a, P, R: Wait> Worker<'x, 'a, P, R> {
     /// Returns the pass that the worker asks with.
     pub(crate) fn pass(&mut self) -> &mut P {
         self.pass
+    }
+
+    /// Counts the workers that were idle when this one was taken, with it, at most: those with places before its own were busy.
+    pub(crate) fn idle_count(&self) -> usize
+        ensures { result ≡ max (length self.now.idle.now.places.items - self.now.place) 1 }
+    {
+        self.idle.places.len().saturating_sub(self.place).max(1)
     }
 }
 

@@ -138,7 +138,7 @@ impl<'a> ImageRef<'a> {
     }
 
     /// Returns the band of all rows of what is asked for. The only error is lack of memory.
-    pub(crate) fn whole(
+    pub(crate) fn full_band(
         &self,
         alloc: Global,
         resolved: &Resolved,

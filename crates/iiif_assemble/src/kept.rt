@@ -36,7 +36,7 @@ pub struct WithKept<'a, B> {
     pub kept: &'a [KeptSum],
 }
 
-/// The sum that is kept for an equal key.
+/// Finds the sum that is kept for an equal key.
 fn kept_for<'a>(kept: &'a [KeptSum], key: &SumKey) -> Option<&'a KeptSum>
     ensures { IfSome result (λ s. (s.now.key ≡ key.now) × Contains kept.now s.now) }
 {
@@ -103,7 +103,7 @@ impl<'a, B: Items<SumKey, SumVal, P, R>, P, R> Items<SumKey, SumVal, P, R> for W
     }
 }
 
-/// Whether the sums of all these items are kept.
+/// Returns whether the sums of all these items are kept.
 fn has_all(kept: &[KeptSum], keys: &[SumKey], items: &[usize]) -> bool
     ensures { result ≡ true → HasAll keys.now items.now kept.now }
 {
@@ -118,7 +118,7 @@ fn has_all(kept: &[KeptSum], keys: &[SumKey], items: &[usize]) -> bool
     true
 }
 
-/// Whether a key is that of one of the items.
+/// Returns whether a key is that of one of the items.
 #[tactic(auto, using(crate::proofs::KeptLemmas::item_is))]
 fn is_of(key: &SumKey, keys: &[SumKey], items: &[usize]) -> bool
     ensures { result ≡ true → IsOfItems keys.now items.now key.now }
@@ -133,7 +133,7 @@ fn is_of(key: &SumKey, keys: &[SumKey], items: &[usize]) -> bool
     false
 }
 
-/// Appends a key and its value to what is kept.
+/// Appends a key and its value to the sums that are kept.
 fn keep(kept: &mut Vec<KeptSum>, key: &SumKey, value: &Arc<SumVal>) -> Result<(), NoMemory>
     ensures { OnOk result (IsKeptToo key.now (arc_value value.now) kept.old.items kept.new.items) }
 {
@@ -144,7 +144,7 @@ fn keep(kept: &mut Vec<KeptSum>, key: &SumKey, value: &Arc<SumVal>) -> Result<()
 }
 
 impl<'a, B> WithKept<'a, B> {
-    /// Of the sums that are kept those of the items. The only error is lack of memory.
+    /// Copies, of the sums that are kept, those of the items. The only error is lack of memory.
     #[tactic(auto, using(crate::proofs::KeptLemmas::kept_more, crate::proofs::KeptLemmas::of_items_more, crate::proofs::KeptLemmas::one_longer))]
     fn kept_of<P, R>(
         &self,
@@ -168,7 +168,7 @@ impl<'a, B> WithKept<'a, B> {
     }
 }
 
-/// The sums of the items, to be kept: those that are kept already, and the others asked by a worker for each pass.
+/// Gathers the sums of the items, to be kept: those that are kept already, and the others, for which a worker for each pass asks.
 #[tactic(auto, using(crate::proofs::KeptLemmas::each_of_all))]
 fn gather_kept<A, B: Items<SumKey, SumVal, P, R> + Sync, P: Send, R: Threads + Wait + Sync>(
     context: &RenderContext<'_, A, B, R>,
@@ -209,7 +209,7 @@ pub fn count_kept(kept: &[KeptSum]) -> u64
     count
 }
 
-/// Of how many blocks of a band the sums are kept at most. A band of more is so wide that its rows take longer than its blocks.
+/// The most blocks of a band whose sums are kept. A band of more is so wide that its rows take longer than its blocks.
 const MOST: usize = 64;
 
 /// Returns whether a job may ask twice for an item of its plan, where its result is cut into bands of `rows`: for a tile with places of two
@@ -231,9 +231,9 @@ pub fn asks_again(alloc: Global, job: &Job, rows: u32) -> Result<bool, NoMemory>
     Ok(false)
 }
 
-/// Sees to it that the sums of a band's blocks are kept, where the job's plan is of blocks: those that are kept already, and the others,
-/// for which a worker for each pass asks, once what is kept of bands that are gone is dropped. So where no band has more than 64 blocks,
-/// each block of a job is asked for once, also where it has places of several bands, however little a cache keeps.
+/// Keeps the sums of a band's blocks, where the job's plan is of blocks: those that are kept already, and the others, for which a worker
+/// for each pass asks, once the sums of bands that are gone are dropped. So where no band has more than 64 blocks, each block of a job is
+/// asked for once, also where it has places of several bands, however little a cache keeps.
 ///
 /// Of a band of more blocks only those stay that were kept: the others are asked for once it is made.
 ///

@@ -21,7 +21,7 @@ use std::alloc::Global;
 use std::sync::{Arc, Wait};
 use std::thread::Threads;
 
-/// Whether the region of a job is that of a tile, and nothing is turned or made gray.
+/// Returns whether the region of a job is that of a tile, and nothing is turned or made gray.
 fn is_itself(job: &Job, key: &TileKey) -> bool
     requires fits { TileFitsIn job.now.shape.dim (channels_of job.now.shape.kind) key.now }
     ensures { IsTrue result ↔ IsTileItself job.now key.now }
@@ -35,7 +35,7 @@ fn is_itself(job: &Job, key: &TileKey) -> bool
     keeps && turn.quarters == 0 && !turn.mirror && rect == at
 }
 
-/// The tile that is the image of a job as it stands: the region is the tile's, and nothing is scaled, turned or made gray. It is asked
+/// Gets the tile that is the image of a job as it stands: the region is the tile's, and nothing is scaled, turned or made gray. It is asked
 /// for as the one item of the image's first band of `rows`. None where the image is no such tile, for which nothing is asked then.
 ///
 /// # Errors

@@ -32,7 +32,7 @@ use std::alloc::Global;
 use std::sync::{Arc, Wait};
 use std::thread::Threads;
 
-/// How many sums there are.
+/// Counts the sums of a total.
 pub(crate) fn count_of_sums(total: &Sums) -> u64
     ensures count { result ≡ total.now.rect.w * total.now.rect.h * total.now.channels }
     ensures small { result < 2 ^ 63 }
@@ -40,7 +40,7 @@ pub(crate) fn count_of_sums(total: &Sums) -> u64
     total.sums().len() as u64
 }
 
-/// The samples in `from` that the sums of values make together. Nothing is held but the sums at these places, and then the samples.
+/// Makes the samples in `from` of the sums of values together. Nothing is held but the sums at these places, and then the samples.
 fn made_of_all<R: Threads + Sync>(
     rt: &R,
     alloc: Global,
@@ -77,7 +77,7 @@ fn made_of_all<R: Threads + Sync>(
     }
 }
 
-/// The samples in `from` that the sums of one value make. Nothing is held but these samples.
+/// Makes the samples in `from` of the sums of one value. Nothing is held but these samples.
 fn made_of_one(job: &JobRef<'_>, value: &Arc<SumVal>, from: Rect) -> Result<Made, Fault>
     requires job { IsJob (lent job.now) }
     requires inside { IsInside from (sums_in (arc_value value.now)).rect }
@@ -96,7 +96,7 @@ fn made_of_one(job: &JobRef<'_>, value: &Arc<SumVal>, from: Rect) -> Result<Made
     }
 }
 
-/// The value, where there is one alone, which has a sum at each place of `from`, and these are few.
+/// Returns the value, where there is one alone, which has a sum at each place of `from`, and these are few.
 fn lone(values: &[Arc<SumVal>], from: Rect) -> Option<&Arc<SumVal>>
     ensures only { IfSome result (λ v. values.now ≡ v.now ∷ []) }
     ensures inside { IfSome result (λ v. IsInside from (sums_in (arc_value v.now)).rect) }
@@ -114,7 +114,7 @@ fn lone(values: &[Arc<SumVal>], from: Rect) -> Option<&Arc<SumVal>>
     }
 }
 
-/// The samples in `from` that the sums of values make together. Where there is one value alone, which has all these places, and they are
+/// Makes the samples in `from` of the sums of values together. Where there is one value alone, which has all these places, and they are
 /// few, it is read where it stands, and nothing is held but the samples; else the sums at these places too.
 fn made_of<R: Threads + Sync>(
     rt: &R,
@@ -138,7 +138,7 @@ fn made_of<R: Threads + Sync>(
     }
 }
 
-/// The part in `from` of a region that is scaled down, of the sums of the blocks that have a place of it. Nothing is held of the
+/// Makes the part in `from` of a region that is scaled down, of the sums of the blocks that have a place of it. Nothing is held of the
 /// result but its sums at these places, and then the samples. Where that is one block, which has all these places, and they are few,
 /// nothing is held of the result but the samples.
 pub(crate) fn merge_sums<

@@ -23,7 +23,7 @@ pub(crate) struct Pool<'x, 'a, G, P, R> {
     pub idle: &'x IdleWorkers<'a, P>,
 }
 
-/// The value of a key. Of one that is made of parts, workers that have nothing to do ask for some of these.
+/// Gets the value of a key. Where it is made of parts, idle workers ask for some of these.
 #[cycle(parts)]
 pub(crate) fn ask<
     G: Items<K, V, P, R> + Sync,
@@ -46,9 +46,9 @@ pub(crate) fn ask<
     }
 }
 
-/// The values of parts of a key, in their order, each asked once; or the fault of the first of them that failed. Where a worker has nothing
-/// to do it asks for the last of them, while this one asks for the others. So behind a part that failed none is begun; one that is under
-/// way is ended, as others may wait for it.
+/// Gathers the values of a key's parts, in their order, each asked once; or the fault of the first of them that failed. An idle worker asks
+/// for the last of them, while this one asks for the others. So behind a part that failed none is begun; one that is under way is ended, as
+/// others may wait for it.
 #[cycle(parts)]
 fn share<
     G: Items<K, V, P, R> + Sync,
@@ -97,7 +97,7 @@ fn share<
     }
 }
 
-/// The same by a worker that had nothing to do, and has nothing to do again then.
+/// Gathers the values of parts by a worker that was idle, and is idle again then.
 #[cycle(parts)]
 fn help<
     'a,
@@ -117,12 +117,12 @@ fn help<
     ensures fault { IfErr result (IsPartsFault (G.means pool.now.group.now) (G.failed pool.now.group.now) parts.now) }
 {
     let values = ask_in_turn(pool, worker.pass(), key, parts);
-    // Idle again.
+    // The worker is idle again.
     drop(worker);
     values
 }
 
-/// The same, asked one after another.
+/// Gathers the values of parts by asking for one after another.
 #[cycle(parts)]
 fn ask_in_turn<
     G: Items<K, V, P, R> + Sync,

@@ -30,7 +30,7 @@ use std::alloc::Global;
 use std::sync::{Arc, Wait};
 use std::thread::Threads;
 
-/// Puts a part of a tile, from its place `corner` on, in its place in a picture.
+/// Copies a part of a tile, from its place `corner` on, to its place in a picture.
 fn put_part(picture: &mut Raster, tile: &Raster, corner: (u32, u32), part: Rect)
     requires channels { tile.now.channels ≡ picture.old.channels }
     requires top { tile.now.top ≡ picture.old.top }
@@ -49,7 +49,7 @@ fn put_part(picture: &mut Raster, tile: &Raster, corner: (u32, u32), part: Rect)
     }
 }
 
-/// Puts what a tile has of a rectangle of the image in its place in the rectangle's picture.
+/// Copies the part of a tile that lies in a rectangle of the image to its place in the rectangle's picture.
 fn put_tile(picture: &mut Raster, shape: &Shape, rect: Rect, key: &TileKey, value: &Arc<TileVal>)
     requires fits { TileFitsIn shape.now.dim (channels_of shape.now.kind) key.now }
     requires shaped { TileHasShape shape.now key.now (arc_value value.now) }
@@ -70,7 +70,7 @@ fn put_tile(picture: &mut Raster, shape: &Shape, rect: Rect, key: &TileKey, valu
     }
 }
 
-/// Puts what tiles have of a rectangle of the image in its place, one after another.
+/// Copies the parts of tiles that lie in a rectangle of the image to their places, tile by tile.
 fn put_all(
     picture: &mut Raster,
     shape: &Shape,
@@ -123,8 +123,8 @@ fn cut_out(shape: &Shape, rect: Rect, key: &TileKey, value: &Arc<TileVal>) -> Re
     }
 }
 
-/// A rectangle of the image, of tiles: cut out of one that has all of it and was asked for alone, and else put together of what
-/// each has of it.
+/// Makes a rectangle of the image of tiles: crops the tile that has all of it and was asked for alone, or copies the part that each tile
+/// has of it.
 fn picture_of(
     alloc: Global,
     shape: &Shape,
@@ -157,7 +157,7 @@ fn picture_of(
     Ok(raster)
 }
 
-/// The part in `from` of a region that keeps its sides, of the tiles that have a place of it. Nothing is held of the result but
+/// Makes the part in `from` of a region that keeps its sides, of the tiles that have a place of it. Nothing is held of the result but
 /// this part.
 pub(crate) fn paste<A: Items<TileKey, TileVal, P, R> + Sync, B, P: Send, R: Threads + Wait + Sync>(
     context: &RenderContext<'_, A, B, R>,

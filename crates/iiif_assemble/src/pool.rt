@@ -1,7 +1,7 @@
 //! The items of a band, asked by several workers.
 
 ghost use Rattle.std.specs.Prelude.{◌≡◌, ℕ, ◌+◌, ◌<◌, ◌≤◌, ◌++◌, ◌∷◌, [], List, All, IfOk, IfErr, IfSome, IsNone, OnOk, OnErr, length, map};
-ghost use Rattle.std.specs.Prelude.{take, vec_len};
+ghost use Rattle.std.specs.Prelude.{◌-◌, ◌/◌, ◌^◌, max, min, take, vec_len};
 ghost use Rattle.std.specs.Arc.{arc_value};
 ghost use Rattle.iiif_keys.specs.declared.fault.Fault.TheVariants as Fault;
 ghost use Rattle.iiif_assemble.specs.Gathering.{AreValues, IsItemFault};
@@ -26,7 +26,7 @@ pub(crate) fn keep<V: Drop>(values: &mut Vec<Arc<V>>, value: Arc<V>) -> Result<(
     }
 }
 
-/// One list of values behind another.
+/// Appends a list of values to another.
 pub(crate) fn concat<V: Drop>(
     mut first: Vec<Arc<V>>,
     rest: Vec<Arc<V>>,
@@ -48,7 +48,7 @@ struct SoFar<'x, 'a, V, P, R: Wait> {
     worker: Option<Worker<'x, 'a, P, R>>,
 }
 
-/// The values of items, asked one after another until more than one is left and another worker has nothing to do; or the first fault.
+/// Asks for items one after another, until more than one is left and another worker is idle; or returns the first fault.
 fn begin<
     'x,
     'a,
@@ -95,9 +95,19 @@ fn begin<
     })
 }
 
-/// The values of all items, in their order. While this worker asks for one after another, it gives the back half of those that are left
-/// to another that has nothing to do, which does the same with them. Where a worker can't be started the calling thread does its share. The
-/// fault is that of the first item that failed, whichever worker met one first. The number of workers is in no clause.
+/// Counts the items of those that are left which one of so many idle workers gets: an equal share, where all of them help, or one.
+fn share_of(left: usize, idle: usize) -> usize
+    requires { (2 ≤ left) × (1 ≤ idle) }
+    ensures share { result ≡ max (left / min (idle + 1) (2 ^ 64 - 1)) 1 }
+    ensures some { 1 ≤ result }
+    ensures rest { result < left }
+{
+    (left / idle.saturating_add(1)).max(1)
+}
+
+/// Gathers the values of all items, in their order. While this worker asks for one after another, it gives an idle one an equal share of
+/// those that are left, from their end, and that worker does the same with them. Where a thread can't be started the calling one does its
+/// share. The fault is that of the first item that failed, whichever worker met one first. The number of workers is in no clause.
 #[cycle(shares)]
 fn share_out<
     G: Items<K, V, P, R> + Sync,
@@ -121,15 +131,15 @@ fn share_out<
         return Ok(values);
     };
     let (_done, left) = items.split_at(values.len());
-    match halve(pool, own, worker, keys, left) {
+    match split(pool, own, worker, keys, left) {
         Ok(rest) => concat(values, rest),
         Err(fault) => Err(fault),
     }
 }
 
-/// The same by two workers, each with half of the items.
+/// Gathers the values of items by two workers, each of which gets a share of them.
 #[cycle(shares)]
-fn halve<
+fn split<
     'a,
     G: Items<K, V, P, R> + Sync,
     K: Sync,
@@ -149,9 +159,9 @@ fn halve<
     ensures values { IfOk result (λ v. AreValues (G.means pool.now.group.now) keys.now items.now (map arc_value v.items)) }
     ensures fault { IfErr result (IsItemFault (G.means pool.now.group.now) (G.failed pool.now.group.now) keys.now items.now) }
 {
-    // The larger half, as who ends first waits, while a worker that ends first helps again.
-    let half = items.len() - items.len() / 2;
-    let (mine, theirs) = items.split_at(half);
+    // This worker keeps what doesn't divide: it waits once it is done, while one that was taken is idle then, and helps again.
+    let kept = items.len() - share_of(items.len(), worker.idle_count());
+    let (mine, theirs) = items.split_at(kept);
     // The worker has the thread that is started, so this worker goes on at once.
     let (rest, first) = join(
         pool.rt,
@@ -178,7 +188,7 @@ fn halve<
     }
 }
 
-/// The same by a worker that had nothing to do, and has nothing to do again then.
+/// Gathers the values of items by a worker that was idle, and is idle again then.
 #[cycle(shares)]
 fn help<
     'a,
@@ -199,12 +209,12 @@ fn help<
     ensures fault { IfErr result (IsItemFault (G.means pool.now.group.now) (G.failed pool.now.group.now) keys.now items.now) }
 {
     let values = share_out(pool, worker.pass(), keys, items);
-    // Idle again.
+    // The worker is idle again.
     drop(worker);
     values
 }
 
-/// Whether all items are at hand.
+/// Returns whether all items are cached.
 fn are_cached<G: Items<K, V, P, R>, K, V, P, R>(
     rt: &R,
     group: &G,
@@ -220,7 +230,7 @@ fn are_cached<G: Items<K, V, P, R>, K, V, P, R>(
     true
 }
 
-/// The values of these items of the keys, by a worker and those that have nothing to do.
+/// Gathers the values of these items of the keys, by a worker and those that are idle.
 fn gather_by_crew<
     G: Items<K, V, P, R> + Sync,
     K: Sync,
@@ -250,8 +260,8 @@ fn gather_by_crew<
     share_out(&pool, own, keys, items)
 }
 
-/// The values of all items, in their order, asked by one worker for each pass: by the first alone where all are at hand, so that no thread
-/// is started for what is found at once.
+/// Gathers the values of all items, in their order, by one worker for each pass: by the first alone where all are cached, so that no thread
+/// is started for values that are found at once.
 ///
 /// # Errors
 ///

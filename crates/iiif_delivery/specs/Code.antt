@@ -37,8 +37,8 @@ use Rattle.iiif_delivery.specs.declared.delivery.Delivered.{Delivered}
 use Rattle.iiif_delivery.specs.declared.delivery.Stopped.{Stopped}
 use Rattle.iiif_delivery.specs.declared.delivery.Stopped.TheVariants.{Writer, Load}
 use Rattle.iiif_delivery.specs.declared.rows.BandCounts.{BandCounts}
-use Rattle.iiif_delivery.specs.declared.rows.Unmade.{Unmade}
-use Rattle.iiif_delivery.specs.declared.rows.Unmade.TheVariants.{Disconnected, Faulted}
+use Rattle.iiif_delivery.specs.declared.rows.BandError.{BandError}
+use Rattle.iiif_delivery.specs.declared.rows.BandError.TheVariants.{Disconnected, Faulted}
 use Rattle.iiif_delivery.specs.declared.sending.Sending.{Sending}
 
 -- what is relied on of pictures and of files
@@ -163,9 +163,9 @@ module _ {A P R O : Type 0} (tile : items.Ghosts A TileKey TileVal P R O) (tiles
         (TileStops contents fails s.job.now (tile.means tiles) (tile.failed tiles) s.kind s.rows s.start.now old new))
 
 -- Why a band isn't there: the client had disconnected, or a fault of which P holds.
-abbrev pub IsUnmadeFor : {W : Type 0} → (W → W → Type 0) → W → (Fault → Type 0) → Unmade → Type 0
-IsUnmadeFor fails out P Disconnected = fails out out
-IsUnmadeFor fails out P (Faulted f) = P f
+abbrev pub IsBandErrorFor : {W : Type 0} → (W → W → Type 0) → W → (Fault → Type 0) → BandError → Type 0
+IsBandErrorFor fails out P Disconnected = fails out out
+IsBandErrorFor fails out P (Faulted f) = P f
 
 module _ {A B R P O U : Type 0} (tile : items.Ghosts A TileKey TileVal P R O) (sum : items.Ghosts B SumKey SumVal P R U)
     (context : RenderContext A B R) (s : Sending) where
@@ -187,7 +187,7 @@ module _ {A B R P O U : Type 0} (tile : items.Ghosts A TileKey TileVal P R O) (s
   -- Band i was made and its rows appended to a text, and so much was held and is kept; or why not: the client had disconnected, memory ran
   -- out, or the first of the band's items that failed. What is kept, where others were before, stays values of its keys, and few.
   pub record MakesBand {W : Type 0} (fails : W → W → Type 0) (i : ℕ) (before sums : List KeptSum) (out : W) (old new : List ℕ)
-      (result : Result BandCounts Unmade) : Type 0 where
+      (result : Result BandCounts BandError) : Type 0 where
     pub kept : AreKept (sum.means context.sums.now) sums
     pub few : AreFew sums
     pub own : OnOk result ((b : Band) × (b.rect ≡ band_rect (result_dim s.job.now) s.rows i) × IsBandOf s.job.now b ×
@@ -198,7 +198,7 @@ module _ {A B R P O U : Type 0} (tile : items.Ghosts A TileKey TileVal P R O) (s
     pub none : OnErr result (new ≡ old)
     pub held : IfOk result (λ n. IsHeldFor (sides_of (band_rect (result_dim s.job.now) s.rows i)) (channels_of s.job.now.shape.kind) n.held)
     pub count : IfOk result (λ n. n.kept ≡ kept_len sums)
-    pub why : IfErr result (IsUnmadeFor fails out (λ f. (f ≡ fault.NoMemory) ⊎
+    pub why : IfErr result (IsBandErrorFor fails out (λ f. (f ≡ fault.NoMemory) ⊎
         ((b : Band) × (b.rect ≡ band_rect (result_dim s.job.now) s.rows i) × IsBandOf s.job.now b ×
         IsBandFault (tile.means context.tiles.now) (tile.failed context.tiles.now) (sum.means context.sums.now)
         (sum.failed context.sums.now) s.job.now.plan b.items.items f)))

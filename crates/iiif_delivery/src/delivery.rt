@@ -1,4 +1,4 @@
-//! Images, sent.
+//! Sending of images.
 
 ghost use Rattle.std.specs.Prelude.{◌≡◌, ◌+◌, ◌*◌, ◌<◌, ◌≤◌, ◌⊎◌, ℕ, [], ◌++◌, ◌^◌, min, IfOk, IfErr, IfSome, IsNone, OnOk, length};
 ghost use Rattle.std.specs.Io.KnownBytes.{Appends};
@@ -10,7 +10,7 @@ ghost use Rattle.iiif_delivery.specs.Delivery.{StopsWithin};
 ghost use Rattle.iiif_delivery.specs.declared.delivery.Stopped.TheVariants.{Writer};
 
 use crate::admission::Admission;
-use crate::rows::{Unmade, laws_of_bands, make_band};
+use crate::rows::{BandError, laws_of_bands, make_band};
 use crate::sending::Sending;
 use crate::tile::send_tile;
 use iiif_assemble::{Items, RenderContext};
@@ -45,11 +45,11 @@ pub enum Stopped {
     Load(u64, Fault),
 }
 
-/// Rows in the file are sent once they take so many bytes, so that a small image takes one write.
+/// How many bytes of rows are buffered before they are sent, so that a small image takes one write.
 const PIECE: usize = 65_536;
 
-/// How many bytes room is made for where a file is sent in bands of `rows`: all of a small file, else its head, and a band behind the rows
-/// that wait.
+/// Computes for how many bytes room is made where a file is sent in bands of `rows`: for all of a small file, else for its head, and for a
+/// band behind the rows that wait.
 fn room(kind: OutKind, dim: Dim, rows: u32) -> usize
     requires { file_len kind dim < 2 ^ 32 }
     ensures small { result ≤ file_len kind dim }
@@ -66,8 +66,8 @@ fn room(kind: OutKind, dim: Dim, rows: u32) -> usize
     most.min(total_len(kind, dim) as usize)
 }
 
-/// What stands before the rows: the head of an answer, and that of the file. Room for the rows is made here, so that bytes needn't be moved
-/// as more come.
+/// Makes the text that stands before the rows: the head of an answer, and that of the file. It has room for the rows, so that bytes needn't
+/// be moved as more come.
 fn front(alloc: Global, sending: &Sending<'_>, dim: Dim) -> Result<Vec<u8>, NoMemory>
     requires { file_len sending.now.kind dim < 2 ^ 32 }
     ensures { IfOk result (λ v. v.items ≡ sending.now.start.now ++ head_of sending.now.kind dim) }
@@ -78,7 +78,7 @@ fn front(alloc: Global, sending: &Sending<'_>, dim: Dim) -> Result<Vec<u8>, NoMe
     Ok(text)
 }
 
-/// Sends what stands ready, of which there is nothing then. Says how many bytes were sent in all, with those `sent` before it.
+/// Flushes the buffered text, which is empty then. Says how many bytes were sent in all, with those `sent` before it.
 fn flush<W: Outlet>(out: &mut W, text: &mut Vec<u8>, sent: u64) -> Result<u64, Stopped>
     requires { sent + length text.old.items < 2 ^ 64 }
     ensures count { IfOk result (λ n. n ≡ sent + length text.old.items) }
@@ -96,7 +96,7 @@ fn flush<W: Outlet>(out: &mut W, text: &mut Vec<u8>, sent: u64) -> Result<u64, S
     }
 }
 
-/// Why a sending stops where a band can't be made. Before any was made nothing is written, else what stands ready.
+/// Ends a sending where a band can't be made, and says why it stopped. Before any was made nothing is written, else the buffered text.
 fn stop<W: Outlet>(out: &mut W, text: &mut Vec<u8>, sent: u64, held: u64, fault: Fault) -> Stopped
     requires { sent + length text.old.items < 2 ^ 64 }
     ensures { StopsFor W.contents W.fails out.old out.new text.old.items sent held fault result }
@@ -181,8 +181,8 @@ fn send_bands<
                 held = held.max(counts.held);
                 most_kept = most_kept.max(counts.kept);
             }
-            Err(Unmade::Disconnected) => return Err(Stopped::Writer(sent)),
-            Err(Unmade::Faulted(fault)) => return Err(stop(out, &mut text, sent, held, fault)),
+            Err(BandError::Disconnected) => return Err(Stopped::Writer(sent)),
+            Err(BandError::Faulted(fault)) => return Err(stop(out, &mut text, sent, held, fault)),
         }
         buffered = buffered.max(text.len() as u64);
         if text.len() >= PIECE {
@@ -211,7 +211,8 @@ fn send_bands<
 /// `held` counts a band of them, and `kept` all.
 ///
 /// Of an image that is made of blocks, the sums of those of a band are kept until those of the next are asked for, of 64 at most. None is
-/// asked for before its band is made. Before some are, the job waits for its turn, and looks meanwhile whether who reads is still there.
+/// asked for before its band is made. Before some are, the job waits until it is admitted, and checks meanwhile whether its client has
+/// disconnected.
 ///
 /// # Errors
 ///

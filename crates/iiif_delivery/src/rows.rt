@@ -78,7 +78,7 @@ fn assemble_rows<
     )
 }
 
-/// What a band took.
+/// Counts of one band.
 #[derive(Clone, Copy)]
 pub(crate) struct BandCounts {
     /// How many samples and sums of the result were held at once, at most, while it was made.
@@ -149,10 +149,10 @@ fn put_band<
     }
 }
 
-/// Why a band isn't there.
+/// Error of making a band.
 #[derive(Clone, Copy)]
-pub(crate) enum Unmade {
-    /// The client disconnected before the band's turn came.
+pub(crate) enum BandError {
+    /// The client disconnected before the job was admitted.
     Disconnected,
     /// It could not be made.
     Faulted(Fault),
@@ -173,7 +173,7 @@ pub(crate) fn make_band<
     out: &W,
     kept: &mut Vec<KeptSum>,
     text: &mut Vec<u8>,
-) -> Result<BandCounts, Unmade>
+) -> Result<BandCounts, BandError>
     requires some { 0 < length passes.old }
     requires sending { MaySend A.Items B.Items context.now sending.now }
     requires index { i < div_ceil (result_dim sending.now.job.now).h sending.now.rows }
@@ -183,7 +183,7 @@ pub(crate) fn make_band<
         text.new.items result }
 {
     let Ok(band) = sending.job.band(context.alloc, sending.rows, i) else {
-        return Err(Unmade::Faulted(Fault::NoMemory));
+        return Err(BandError::Faulted(Fault::NoMemory));
     };
     let queued = match admit::<B, P, R, W>(
         context.rt,
@@ -194,7 +194,7 @@ pub(crate) fn make_band<
         out,
     ) {
         Ok(queued) => queued,
-        Err(Disconnected) => return Err(Unmade::Disconnected),
+        Err(Disconnected) => return Err(BandError::Disconnected),
     };
     let made = put_band(context, passes, sending, &band, kept, text);
     if let Some(job) = queued {
@@ -202,6 +202,6 @@ pub(crate) fn make_band<
     }
     match made {
         Ok(counts) => Ok(counts),
-        Err(fault) => Err(Unmade::Faulted(fault)),
+        Err(fault) => Err(BandError::Faulted(fault)),
     }
 }

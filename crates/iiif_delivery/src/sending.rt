@@ -1,9 +1,9 @@
-//! What is sent.
+//! Images to be sent.
 
 use iiif_assemble::Job;
 use iiif_tiff_write::OutKind;
 
-/// What is sent: the image of a job as a file, behind a text.
+/// Image to be sent: that of a job as a file, behind a text.
 #[derive(Clone, Copy)]
 pub struct Sending<'a> {
     /// The job, planned.
@@ -12,6 +12,6 @@ pub struct Sending<'a> {
     pub rows: u32,
     /// The kind of the file.
     pub kind: OutKind,
-    /// What stands before the file, as the head of an answer.
+    /// The text before the file, such as the head of an answer.
     pub start: &'a [u8],
 }

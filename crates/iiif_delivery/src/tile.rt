@@ -1,4 +1,4 @@
-//! Images that are a tile, sent as it stands.
+//! Sending of images that are a tile as it stands.
 
 ghost use Rattle.std.specs.Prelude.{◌≡◌, ◌*◌, ◌^◌, ◌<◌, ◌++◌, IfOk, length};
 ghost use Rattle.iiif_tiff_write.specs.File.{file_len, head_of};
@@ -16,7 +16,7 @@ use std::alloc::Global;
 use std::sync::Wait;
 use std::thread::Threads;
 
-/// A text, and the head of a file.
+/// Joins a text and the head of a file.
 fn front(alloc: Global, start: &[u8], kind: OutKind, dim: Dim) -> Result<Vec<u8>, NoMemory>
     requires { file_len kind dim < 2 ^ 32 }
     ensures { IfOk result (λ v. v.items ≡ start.now ++ head_of kind dim) }

@@ -1,4 +1,4 @@
-//! The groups of a node as what has the values of keys.
+//! The groups of a node as groups that answer for keys.
 
 ghost use Rattle.std.specs.Prelude.{◌≡◌, ◌+◌, ◌<◌, ◌≤◌, [], Err, IfErr, IfOk, IsTrue, Ok};
 ghost use Rattle.std.specs.Arc.{arc_value};
@@ -22,8 +22,8 @@ use std::sync::ledger::Ledger;
 use std::sync::{Arc, Wait};
 use std::time::{Clock, Duration};
 
-/// The groups of a node, as images are made of what they have, and who may make sums now. By a handle nothing is loaded but behind a call
-/// that entered its group.
+/// The groups of a node, of whose values images are made, and the queues that admit jobs to the making of sums. By a handle nothing is
+/// loaded but behind a call that entered its group.
 #[derive(Drop)]
 pub struct GroupItems<'a, R, S: Source<R>, J: System, N, T>(
     pub Handle<'a, R, S, J, N, T>,
@@ -33,11 +33,11 @@ where
     TileCalls<J>: Ledger,
     SumCalls<J>: Ledger;
 
-/// The least level of a block whose parts are shared out. These are of up to 64 tiles, which take some milliseconds to load: for fewer a
-/// thread costs as much as it saves.
-const SHARED: u8 = 4;
+/// The least level of a block whose parts are shared out. These are of up to 16 tiles, which take half a millisecond to load and sum: for
+/// fewer a thread costs as much as it saves.
+const SHARED: u8 = 3;
 
-/// A value that is there, or why it isn't.
+/// Wraps a value that is known, or why there is none.
 fn known<K, V, O>(came: Result<Arc<V>, Fault>) -> Result<Opened<K, V, O>, Fault>
     ensures value { IfOk result (λ b. (v : Arc V Global) × (came ≡ Ok v) × (b ≡ Known v)) }
     ensures fault { IfErr result (λ f. came ≡ Err f) }
@@ -48,7 +48,7 @@ fn known<K, V, O>(came: Result<Arc<V>, Fault>) -> Result<Opened<K, V, O>, Fault>
     }
 }
 
-/// Tiles: what is kept, or what a flight ends with. A worker asks with a pass of each group.
+/// Answers for tiles: by the cached value, or the outcome of a flight. A worker asks with a pass of each group.
 impl<
     'a,
     R: Wait + Clock,
@@ -84,7 +84,7 @@ impl<
         }
     }
 
-    /// No tile has parts.
+    /// Is never called with values: no tile has parts.
     fn close(
         &self,
         _rt: &R,
@@ -113,7 +113,7 @@ impl<
     }
 }
 
-/// Sums, in the same way.
+/// Answers for sums in the same way, and shares out the making of those that have many parts.
 impl<
     'a,
     R: Wait + Clock,
@@ -189,7 +189,7 @@ impl<
     }
 }
 
-/// Jobs whose sums are to be made wait until they are admitted.
+/// Admits jobs to the making of sums, by the queues of the node.
 impl<'a, R: Wait + Clock, S: Source<R> + Drop, J: System, N, T> Admission<R>
     for GroupItems<'a, R, S, J, N, T> {
     type Queued = Queued;

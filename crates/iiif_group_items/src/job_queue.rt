@@ -1,17 +1,17 @@
-//! Queues of images that are to be made ready, so many at a time.
+//! Queues of jobs, which admit so many of them at a time.
 
 ghost use Rattle.std.specs.Prelude.{◌≡◌};
 
-use crate::order::Order;
+use crate::queue_state::QueueState;
 use iiif_sum_group::StripedCondvar;
 use std::alloc::Global;
 use std::sync::{CondvarTimeouts, Mutex, Wait};
 use std::time::{Clock, Duration, Instant};
 
-/// Where no job of a queue was let in for so many milliseconds, one more is, beside those at work: reads of these may have stalled.
+/// For how many milliseconds a queue admits no job before it admits one more, beside those at work: reads of these may have stalled.
 const PATIENCE: u64 = 500;
 
-/// From how many pixels on a job is a heavy one. Of such a worker has for some 50 milliseconds.
+/// From how many pixels of work on a job is a heavy one. So many take a worker some 50 milliseconds.
 const HEAVY: u64 = 16_777_216;
 
 /// A job in a queue, which waits or is admitted: its work, and its number among those of its queue. It has no `Drop`, and
@@ -21,20 +21,20 @@ pub struct Queued {
     number: u64,
 }
 
-/// The jobs of a queue, and when one was last let in.
+/// The state of a queue, and when it last admitted a job.
 #[derive(Drop)]
 struct Line {
-    order: Order,
+    state: QueueState,
     changed: Option<Instant>,
 }
 
 impl Line {
-    /// A job was let in.
+    /// Notes that a job is admitted now.
     fn change<R: Clock>(&mut self, rt: &R) {
         self.changed = Instant::now(rt).ok();
     }
 
-    /// Whether none was let in for so long that one more may be. Without a clock it is so.
+    /// Returns whether none was admitted for so long that one more may be. Without a clock it is so.
     fn is_stuck<R: Clock>(&self, rt: &R) -> bool {
         let Some(changed) = self.changed else {
             return true;
@@ -46,8 +46,8 @@ impl Line {
     }
 }
 
-/// Jobs of which so many are at work at a time. Those that wait are let in one by one, those of less work before those that came a little
-/// earlier.
+/// A queue that admits so many jobs at a time. Those that wait are admitted one by one, those of less work before those that were enqueued
+/// a little earlier.
 #[derive(Drop)]
 struct Queue {
     line: Mutex<Line>,
@@ -58,45 +58,45 @@ impl Queue {
     fn new(alloc: Global, most: u32) -> Queue {
         Queue {
             line: Mutex::new(Line {
-                order: Order::new(alloc, most),
+                state: QueueState::new(alloc, most),
                 changed: None,
             }),
             waiting: StripedCondvar::new(),
         }
     }
 
-    /// A job comes, and is told its number.
-    fn come<R: Wait + Clock>(&self, rt: &R, work: u64) -> u64 {
+    /// Enqueues a job, and returns its number.
+    fn enqueue<R: Wait + Clock>(&self, rt: &R, work: u64) -> u64 {
         let mut line = self.line.lock(rt);
-        let (number, is_let_in) = line.order.come(work);
-        if is_let_in {
+        let (number, is_admitted) = line.state.enqueue(work);
+        if is_admitted {
             line.change(rt);
         }
         number
     }
 
-    /// Waits until a job is let in, for so long at most, and says whether it is.
+    /// Waits until a job is admitted, for so long at most, and says whether it is.
     fn wait<R: Wait + Clock>(&self, rt: &R, number: u64, limit: Duration) -> bool {
         let line = self.line.lock(rt);
         let (mut line, _) = self
             .waiting
-            .of(number)
-            .wait_timeout_while(rt, line, limit, |line| line.order.has(number));
-        if line.is_stuck(rt) && line.order.let_in(number) {
+            .stripe(number)
+            .wait_timeout_while(rt, line, limit, |line| line.state.has(number));
+        if line.is_stuck(rt) && line.state.admit_if_next(number) {
             line.change(rt);
         }
-        !line.order.has(number)
+        !line.state.has(number)
     }
 
-    /// A job is done, and the next one is let in; or it waits no longer. So where one more was let in, as others were stuck, there is room
-    /// for it until nobody waits.
-    fn leave<R: Wait + Clock>(&self, rt: &R, number: u64) {
+    /// Releases a job, which is done, and admits the next; or which waits no longer. So where one more was admitted, as others were stuck,
+    /// there is room for it until none waits.
+    fn release<R: Wait + Clock>(&self, rt: &R, number: u64) {
         let mut line = self.line.lock(rt);
-        match line.order.leave(number) {
-            Some(called) => {
+        match line.state.release(number) {
+            Some(admitted) => {
                 line.change(rt);
                 drop(line);
-                called.wake(&self.waiting);
+                admitted.wake(&self.waiting);
             }
             None => drop(line),
         }
@@ -112,7 +112,7 @@ pub struct JobQueue {
 }
 
 impl JobQueue {
-    /// Room for so many light jobs at a time, and for so many heavy ones.
+    /// Makes empty queues with room for so many light jobs at a time, and for so many heavy ones.
     pub fn new(alloc: Global, light: u32, heavy: u32) -> JobQueue {
         JobQueue {
             light: Queue::new(alloc, light),
@@ -120,7 +120,7 @@ impl JobQueue {
         }
     }
 
-    /// The queue of a job of so much work.
+    /// Returns the queue of a job of so much work.
     fn queue(&self, work: u64) -> &Queue {
         if work < HEAVY {
             &self.light
@@ -129,11 +129,11 @@ impl JobQueue {
         }
     }
 
-    /// Enqueues a job of so much work. Where there is room and nobody waits it is admitted at once.
+    /// Enqueues a job of so much work. Where there is room and none waits it is admitted at once.
     pub fn enqueue<R: Wait + Clock>(&self, rt: &R, work: u64) -> Queued
         ensures { result.work ≡ work }
     {
-        let number = self.queue(work).come(rt, work);
+        let number = self.queue(work).enqueue(rt, work);
         Queued { work, number }
     }
 
@@ -145,6 +145,6 @@ impl JobQueue {
     /// Takes a job out of its queue, which is done or waits no longer.
     pub fn release<R: Wait + Clock>(&self, rt: &R, job: Queued) {
         let Queued { work, number } = job;
-        self.queue(work).leave(rt, number);
+        self.queue(work).release(rt, number);
     }
 }

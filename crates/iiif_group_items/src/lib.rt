@@ -1,4 +1,4 @@
-//! Values as images are made of them, asked of the groups of a node.
+//! The groups of a node, as images are made of their values.
 #![tactic(auto)]
 
 pub use items::GroupItems;
@@ -7,4 +7,4 @@ pub use job_queue::{JobQueue, Queued};
 pub mod items;
 pub mod job_queue;
 pub mod laws;
-mod order;
+mod queue_state;

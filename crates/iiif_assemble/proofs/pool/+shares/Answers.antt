@@ -33,8 +33,8 @@ share_out-returns-in-Err-clause-fault g t c =
     second_failed means (g.G.Items.failed c.args.pool.now.group.now) keys items (take (vec_len values) items) left (vec_len values)
     (map arc_value values.items) c.in-Err.fault refl back had c.in-Err.ensures.fault
 
-pub halve-returns-in-Ok-rest-clause-values : goal.halve-returns-in-Ok-rest-clause-values
-halve-returns-in-Ok-rest-clause-values g t c =
+pub split-returns-in-Ok-rest-clause-values : goal.split-returns-in-Ok-rest-clause-values
+split-returns-in-Ok-rest-clause-values g t c =
     let a = rw c.in-Ok.is at c.join-rest.ensures.second.0 in
     let b = rw c.in-Ok-rest.is at c.join-rest.ensures.first.0 in
     IfOk-weaker c.concat.result _ _
@@ -43,8 +43,8 @@ halve-returns-in-Ok-rest-clause-values g t c =
     c.in-Ok.first.items c.in-Ok-rest.rest.items v.items c.split_at.ensures.front c.split_at.ensures.back a b e)
     c.concat.ensures.ok
 
-pub halve-returns-in-Err-rest-clause-fault : goal.halve-returns-in-Err-rest-clause-fault
-halve-returns-in-Err-rest-clause-fault g t c =
+pub split-returns-in-Err-rest-clause-fault : goal.split-returns-in-Err-rest-clause-fault
+split-returns-in-Err-rest-clause-fault g t c =
     let a = rw c.in-Ok.is at c.join-rest.ensures.second.0 in
     let b = rw c.in-Err-rest.is at c.join-rest.ensures.first.1 in
     second_failed (g.G.Items.means c.args.pool.now.group.now) (g.G.Items.failed c.args.pool.now.group.now) c.args.keys.now c.args.items.now

@@ -320,5 +320,4 @@ returns-in-Err-clause-stopped g c =
     λ shows has source.
     writer_stopped c.laws_of_bands.ensures j tm sm s.kind s.start.now c.requires.sending.job.quarters c.requires.sending.channels
     g.W.Write.contents g.W.Outlet.fails c.args.out.now c.loop-i.out c.loop-i.out c.loop-i.text.items c.loop-i.sent y
-    c.in-Err.more (omega (arith, above)) cut
-    shows has source (c.loop-i.invariant.rows shows has source)
+    c.in-Err.more (omega (arith, above)) cut shows has source (c.loop-i.invariant.rows shows has source)

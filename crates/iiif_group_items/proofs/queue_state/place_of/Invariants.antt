@@ -1,6 +1,6 @@
 use Rattle.std.proofs.Common.{◌≡◌, ℕ, ◌<◌}
 use Rattle.iiif_group_items.specs.Turns.{at}
-use Rattle.iiif_group_items.proofs.order.place_of.Given as goal
+use Rattle.iiif_group_items.proofs.queue_state.place_of.Given as goal
 
 -- none of those so far
 abbrev pub invariant-loop-place : goal.invariant-loop-place

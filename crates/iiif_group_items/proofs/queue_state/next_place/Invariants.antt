@@ -1,6 +1,6 @@
 use Rattle.std.proofs.Common.{ℕ, ◌<◌, ◌≤◌, length}
 use Rattle.iiif_group_items.specs.Turns.{at}
-use Rattle.iiif_group_items.proofs.order.next_place.Given as goal
+use Rattle.iiif_group_items.proofs.queue_state.next_place.Given as goal
 
 -- the least of those so far
 abbrev pub invariant-loop-place : goal.invariant-loop-place

@@ -1,12 +1,12 @@
-//! The jobs of a queue: who waits, and how many are at work.
+//! The state of a queue: the jobs that wait, and how many are at work.
 
 ghost use Rattle.std.specs.Prelude.{◌≡◌, ℕ, ◌+◌, ◌^◌, ◌<◌, ◌≤◌, ◌⊎◌, [], IfNone, IfSome, None, false, true, vec_capacity, vec_len};
-ghost use Rattle.iiif_group_items.specs.Turns.{HasRoom, IsLetIn, IsNext, WaitsAt, WaitsNoLonger, WaitsNot, WaitsToo, rank_of, there};
+ghost use Rattle.iiif_group_items.specs.Turns.{HasRoom, IsAdmitted, IsNext, WaitsAt, WaitsNoLonger, WaitsNot, WaitsToo, rank_of, there};
 
 use iiif_sum_group::StripedCondvar;
 use std::alloc::Global;
 
-/// By how many pixels of work less a job goes before one that came right before it. So each is passed over by so many at most.
+/// By how many pixels of work less a job goes before one that came right before it. So a job is passed over by a bounded number of others.
 const STEP: u64 = 4_194_304;
 
 /// A job that waits: its number, and its place among the others, the least first.
@@ -16,16 +16,16 @@ pub(crate) struct Waiting {
     rank: u64,
 }
 
-/// A job that was admitted as another left, and is still to be woken. It has no `Drop`, and `wake` alone consumes it: no such job is left
-/// asleep.
-pub(crate) struct Called {
+/// A job that was admitted as another was released, and is still to be woken. It has no `Drop`, and `wake` alone consumes it: no such job
+/// is left asleep.
+pub(crate) struct Admitted {
     number: u64,
 }
 
-impl Called {
+impl Admitted {
     /// Wakes the job.
     pub(crate) fn wake(self, waiting: &StripedCondvar) {
-        let Called { number } = self;
+        let Admitted { number } = self;
         let _woken = waiting.wake(number);
     }
 }
@@ -43,7 +43,7 @@ fn place_of(waiting: &[Waiting], number: u64) -> Option<usize>
     None
 }
 
-/// Returns the place of the job that is let in next. None where none waits.
+/// Returns the place of the job that is admitted next. None where none waits.
 fn next_place(waiting: &[Waiting]) -> Option<usize>
     ensures some { IfSome result (λ place. IsNext waiting.now place) }
     ensures none { IfNone result (waiting.now ≡ []) }
@@ -60,25 +60,25 @@ fn next_place(waiting: &[Waiting]) -> Option<usize>
     Some(least)
 }
 
-/// The jobs of a queue.
+/// State of a queue: its jobs, and how many are at work.
 #[derive(Drop)]
-pub(crate) struct Order {
+pub(crate) struct QueueState {
     /// How many are at work at a time, where none of them is stuck.
     most: u64,
-    /// How many came. It is the number of the next.
+    /// How many were enqueued. It is the number of the next.
     came: u64,
-    /// The jobs that wait, in the order in which they came.
+    /// The jobs that wait, in the order in which they were enqueued.
     waiting: Vec<Waiting>,
-    /// How many were let in, and haven't left.
+    /// How many were admitted, and aren't released.
     at_work: u64,
 }
 
-impl Order {
-    /// Nobody came.
-    pub(crate) fn new(alloc: Global, most: u32) -> Order
+impl QueueState {
+    /// Makes an empty queue, of which so many jobs may be at work.
+    pub(crate) fn new(alloc: Global, most: u32) -> QueueState
         ensures { there result ≡ 0 }
     {
-        Order {
+        QueueState {
             most: u64::from(most),
             came: 0,
             waiting: Vec::new(alloc),
@@ -86,7 +86,7 @@ impl Order {
         }
     }
 
-    /// Whether a job waits.
+    /// Returns whether a job waits.
     pub(crate) fn has(&self, number: u64) -> bool
         ensures waits { result ≡ true → (place : ℕ) × WaitsAt self.now.waiting.items place number }
         ensures waits_not { result ≡ false → WaitsNot self.now.waiting.items number }
@@ -94,13 +94,13 @@ impl Order {
         place_of(&self.waiting, number).is_some()
     }
 
-    /// A job of so much work comes, and is told its number, and whether it is let in: where there is room and nobody waits, or no memory to
-    /// wait with.
-    pub(crate) fn come(&mut self, work: u64) -> (u64, bool)
+    /// Enqueues a job of so much work. Returns its number, and whether it is admitted at once: where there is room and none waits, or no
+    /// memory to wait with.
+    pub(crate) fn enqueue(&mut self, work: u64) -> (u64, bool)
         ensures number { result.0 ≡ self.old.came }
         ensures at_once { HasRoom self.old → result.1 ≡ true }
         ensures only { result.1 ≡ true → HasRoom self.old ⊎ (vec_capacity self.old.waiting ≤ vec_len self.old.waiting) }
-        ensures let_in { result.1 ≡ true → self.new.waiting.items ≡ self.old.waiting.items }
+        ensures stay { result.1 ≡ true → self.new.waiting.items ≡ self.old.waiting.items }
         ensures waits { result.1 ≡ false → WaitsToo self.old self.new result.0 (rank_of work result.0) }
         ensures counted { there self.old + 1 < 2 ^ 64 → there self.new ≡ there self.old + 1 }
     {
@@ -115,9 +115,9 @@ impl Order {
         (number, false)
     }
 
-    /// Lets the next job in, and says which. None where none waits.
-    fn let_next(&mut self) -> Option<u64>
-        ensures next { IfSome result (λ n. IsLetIn self.old self.new n) }
+    /// Admits the next job, and returns its number. None where none waits.
+    fn admit_next(&mut self) -> Option<u64>
+        ensures next { IfSome result (λ n. IsAdmitted self.old self.new n) }
         ensures none { IfNone result ((self.old.waiting.items ≡ []) × (self.new ≡ self.old)) }
         ensures counted { there self.old + 1 < 2 ^ 64 → there self.new ≡ there self.old }
     {
@@ -127,9 +127,9 @@ impl Order {
         Some(next.number)
     }
 
-    /// Lets a job in where it is the next, though there may be no room. It says whether it was let in.
-    pub(crate) fn let_in(&mut self, number: u64) -> bool
-        ensures next { result ≡ true → IsLetIn self.old self.new number }
+    /// Admits a job where it is the next, though there may be no room. Returns whether it was admitted.
+    pub(crate) fn admit_if_next(&mut self, number: u64) -> bool
+        ensures next { result ≡ true → IsAdmitted self.old self.new number }
         ensures same { result ≡ false → self.new ≡ self.old }
         ensures counted { there self.old + 1 < 2 ^ 64 → there self.new ≡ there self.old }
     {
@@ -143,8 +143,8 @@ impl Order {
         }
     }
 
-    /// A job waits no longer. It says whether it did.
-    fn give_up(&mut self, number: u64) -> bool
+    /// Takes a job out of those that wait. Returns whether it waited.
+    fn withdraw(&mut self, number: u64) -> bool
         ensures gone { result ≡ true → WaitsNoLonger self.old self.new number × (self.new.at_work ≡ self.old.at_work) }
         ensures same { result ≡ false → (self.new ≡ self.old) × WaitsNot self.old.waiting.items number }
         ensures counted { result ≡ true → there self.new + 1 ≡ there self.old }
@@ -158,19 +158,19 @@ impl Order {
         }
     }
 
-    /// A job is done, and the next one is let in, which is to be woken. Or a job waits no longer, and none is let in.
-    pub(crate) fn leave(&mut self, number: u64) -> Option<Called>
-        ensures next { IfSome result (λ c. WaitsNot self.old.waiting.items number × IsLetIn self.old self.new c.number) }
+    /// Releases a job: one that is done, and the next is admitted, which is to be woken; or one that waits no longer, and none is admitted.
+    pub(crate) fn release(&mut self, number: u64) -> Option<Admitted>
+        ensures next { IfSome result (λ c. WaitsNot self.old.waiting.items number × IsAdmitted self.old self.new c.number) }
         ensures none { IfNone result (WaitsNoLonger self.old self.new number
             ⊎ ((self.old.waiting.items ≡ []) × (self.new.waiting.items ≡ []))) }
         ensures counted { there self.old + 1 < 2 ^ 64 → 0 < self.old.at_work → there self.new + 1 ≡ there self.old }
     {
-        if self.give_up(number) {
+        if self.withdraw(number) {
             return None;
         }
         self.at_work = self.at_work.saturating_sub(1);
-        match self.let_next() {
-            Some(number) => Some(Called { number }),
+        match self.admit_next() {
+            Some(number) => Some(Admitted { number }),
             None => None,
         }
     }

@@ -1,6 +1,6 @@
 use Rattle.std.proofs.Common.{arith}
 use Rattle.iiif_pixel.specs.Geometry.{channels_of}
-use Rattle.iiif_assemble.proofs.job.ImageRef.whole.Goals as goal
+use Rattle.iiif_assemble.proofs.job.ImageRef.full_band.Goals as goal
 
 pub band_in-requires-clause-plan : goal.band_in-requires-clause-plan
 band_in-requires-clause-plan c = record {
