@@ -28,7 +28,7 @@ pub enum State {
     HalfOpen { since: u64, wait: u64 },
 }
 
-/// What is known of a link: whether it is asked, and how often it was opened, which is the number of each ask that is made now.
+/// Circuit breaker of a link: its state, and how often it was opened, which is the number of each ask that is made now.
 #[derive(Clone, Copy, PartialEq, Eq)]
 pub struct Breaker {
     state: State,
@@ -36,7 +36,7 @@ pub struct Breaker {
 }
 
 impl Breaker {
-    /// A link of which nothing is known.
+    /// Makes the breaker of a link of which nothing is known: it is closed.
     pub fn new() -> Breaker
         ensures { result ≡ unknown }
     {
@@ -46,21 +46,21 @@ impl Breaker {
         }
     }
 
-    /// Whether the link is asked.
+    /// Returns whether the link is asked.
     pub fn state(&self) -> State
         ensures { result ≡ self.now.state }
     {
         self.state
     }
 
-    /// How often it was opened.
+    /// Returns how often it was opened.
     pub fn openings(&self) -> u64
         ensures { result ≡ self.now.openings }
     {
         self.openings
     }
 
-    /// Leaves the link alone from now on.
+    /// Opens: the link is left alone from now on.
     fn open(&mut self, now: u64, wait: u64)
         ensures { self.new ≡ opened self.old.openings now wait }
     {
@@ -71,7 +71,7 @@ impl Breaker {
         self.openings = self.openings.saturating_add(1);
     }
 
-    /// Whether it is asked now.
+    /// Returns whether the link is asked now.
     fn is_asked(&self, now: u64) -> bool
         ensures { result ≡ is_asked self.now.state now }
     {
@@ -82,14 +82,14 @@ impl Breaker {
         }
     }
 
-    /// Whether it is to be looked at now: it is asked, or soon would be.
+    /// Returns whether a health check of its node is due: the link is asked, or soon would be.
     pub fn is_due(&self, now: u64) -> bool
         ensures { result ≡ is_due self.now.state now }
     {
         self.is_asked(now.saturating_add(SOON))
     }
 
-    /// Leaves the link alone since a look at its node was in vain: for a second where it was asked, and else for as long again as it was.
+    /// Opens since a health check of its node failed: for a second where the link was asked, and else for as long again as it was.
     pub fn report_silent(&mut self, now: u64)
         ensures { self.new ≡ silent self.old now }
     {
@@ -101,8 +101,8 @@ impl Breaker {
         self.open(now, wait);
     }
 
-    /// The number for an ask that is made now, which is given back with its outcome; none where the link is left alone. Where it was left
-    /// alone until now, the one who is given a number is to ask, since no other is given one for as long again.
+    /// Returns the number for an ask that is made now, which comes back with its outcome; none where the link is left alone. Where it was
+    /// left alone until now, the caller is to ask, since no other gets a number for as long again.
     pub fn may_ask(&mut self, now: u64) -> Option<u64>
         ensures value { result ≡ (if is_asked self.old.state now then Some self.old.openings else None) }
         ensures state { self.new ≡ asked self.old now }

@@ -1,6 +1,6 @@
-//! What is told of a link.
+//! Changes of a link that are logged.
 
-/// What became of a link that is told.
+/// A change of a link that is logged.
 #[derive(Clone, Copy, PartialEq, Eq)]
 pub enum Change {
     /// It failed, and is left alone from now on.

@@ -1,4 +1,4 @@
-//! What holds of a link whatever comes. The functions compute nothing: their contracts are the laws.
+//! Laws of every link, whatever comes. The functions compute nothing: their contracts are the laws.
 
 ghost use Rattle.iiif_breaker.specs.Laws.{HasPeriod, IsAskedAgain, IsAskedOnceAPeriod, IsClosedByAnAnswer, IsLeftAlone};
 ghost use Rattle.iiif_breaker.specs.Laws.{IsLeftAloneByALook, IsNeverClosedByALook, IsUnmovedAfterALook, IsUnmovedByLateFaults};

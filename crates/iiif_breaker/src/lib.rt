@@ -1,6 +1,5 @@
-//! When a link to another node is asked, and when it is left alone since it failed; and how its asks ended. Moments are milliseconds from
-//! any
-//! beginning, handed in.
+//! Circuit breaker of a link to another node, which leaves a node alone that fails, and counts of how its asks ended. Moments are
+//! milliseconds from any beginning, handed in.
 #![tactic(auto)]
 
 pub use breaker::{Breaker, State};

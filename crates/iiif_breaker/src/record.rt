@@ -1,4 +1,4 @@
-//! What is kept of a link.
+//! The record of a link: its breaker and its counts.
 
 ghost use Rattle.std.specs.Prelude.{◌≡◌, IfNone, IfSome, true, false, if◌then◌else◌};
 ghost use Rattle.iiif_breaker.specs.Breaking.{asked, change_of, is_asked, is_closed, is_due, reported, silent, unknown};
@@ -9,14 +9,14 @@ use crate::change::Change;
 use crate::counts::Asks;
 use crate::outcome::Outcome;
 
-/// Whether a link is asked by all.
+/// Returns whether all ask a link in this state.
 fn is_closed(state: State) -> bool
     ensures { result ≡ is_closed state }
 {
     matches!(state, State::Closed { .. })
 }
 
-/// What is told of a link that was so and is so now.
+/// Returns the change from one state to another, where that is logged.
 fn change_of(was: State, now: State) -> Option<Change>
     ensures { result ≡ change_of was now }
 {
@@ -27,7 +27,7 @@ fn change_of(was: State, now: State) -> Option<Change>
     }
 }
 
-/// What is known of a link, and how its asks ended so far.
+/// A link's breaker, and how its asks ended so far.
 #[derive(Clone, Copy, PartialEq, Eq)]
 pub struct LinkRecord {
     breaker: Breaker,
@@ -35,7 +35,7 @@ pub struct LinkRecord {
 }
 
 impl LinkRecord {
-    /// Of a link that wasn't asked yet.
+    /// Makes the record of a link that wasn't asked yet.
     pub fn new() -> LinkRecord
         ensures breaker { result.breaker ≡ unknown }
         ensures asks { result.asks ≡ none }
@@ -46,21 +46,21 @@ impl LinkRecord {
         }
     }
 
-    /// How its asks ended so far.
+    /// Returns how its asks ended so far.
     pub fn asks(&self) -> Asks
         ensures { result ≡ self.now.asks }
     {
         self.asks
     }
 
-    /// Whether it is asked.
+    /// Returns whether it is asked.
     pub fn state(&self) -> State
         ensures { result ≡ self.now.breaker.state }
     {
         self.breaker.state()
     }
 
-    /// The number for an ask that is made now; none where the link is left alone, which is counted.
+    /// Returns the number for an ask that is made now; none where the link is left alone, which is counted.
     pub fn may_ask(&mut self, now: u64) -> Option<u64>
         ensures number { IfSome result (λ n. n ≡ self.old.breaker.openings) }
         ensures asked { IfSome result (λ _. (is_asked self.old.breaker.state now ≡ true) × (self.new.asks ≡ self.old.asks)) }
@@ -74,7 +74,7 @@ impl LinkRecord {
         number
     }
 
-    /// Takes in how the ask of a number ended, and says what becomes of the link.
+    /// Takes in how the ask of a number ended, and returns the link's change.
     pub fn report(&mut self, now: u64, number: u64, outcome: Outcome) -> Option<Change>
         ensures change { result ≡ change_of self.old.breaker.state self.new.breaker.state }
         ensures breaker { self.new.breaker ≡ reported self.old.breaker now number outcome }
@@ -86,14 +86,14 @@ impl LinkRecord {
         change_of(was, self.breaker.state())
     }
 
-    /// Whether its node is to be looked at now.
+    /// Returns whether a health check of its node is due.
     pub fn is_due(&self, now: u64) -> bool
         ensures { result ≡ is_due self.now.breaker.state now }
     {
         self.breaker.is_due(now)
     }
 
-    /// Takes in a look at its node that was in vain, and says what becomes of the link. Before are the asks of the moment when the look
+    /// Takes in a health check of its node that failed, and returns the link's change. Before are the asks of the moment when the check
     /// began: where one was answered since, the node is there.
     pub fn report_silent(&mut self, now: u64, before: &Asks) -> Option<Change>
         ensures change { result ≡ change_of self.old.breaker.state self.new.breaker.state }

@@ -23,7 +23,7 @@ use Rattle.iiif_log.specs.declared.answered.Outcome.{Outcome}
 use Rattle.iiif_log.specs.declared.answered.Outcome.TheVariants.{Whole, Cut}
 use Rattle.iiif_log.specs.declared.peer.PeerTurn.{PeerTurn}
 use Rattle.iiif_log.specs.declared.peer.Turn.{Turn}
-use Rattle.iiif_log.specs.declared.peer.Turn.TheVariants.{LeftAlone, AskedAgain}
+use Rattle.iiif_log.specs.declared.peer.Turn.TheVariants.{LeftAlone, AskedAgain, Itself}
 use Rattle.iiif_log.proofs.EscapeLemmas.{Seen, escaped_is_seen, escapes_differ}
 
 -- a word: each of its bytes is visible
@@ -253,6 +253,10 @@ turn_seen AskedAgain = all_seen (codes "asked-again") (
     ),
   ),
 )
+turn_seen Itself = all_seen (codes "itself") (
+  omega arith,
+  (omega arith, (omega arith, (omega arith, (omega arith, (omega arith, tt))))),
+)
 
 pub peer_lines_are_lines : PeerLinesAreLines
 peer_lines_are_lines p text (time, moment, is) =
@@ -270,6 +274,11 @@ turns_differ LeftAlone LeftAlone e = refl
 turns_differ LeftAlone AskedAgain e = let firsts : 108 ≡ 97 = ap first_of e in grind (arith, firsts)
 turns_differ AskedAgain LeftAlone e = let firsts : 97 ≡ 108 = ap first_of e in grind (arith, firsts)
 turns_differ AskedAgain AskedAgain e = refl
+turns_differ Itself Itself e = refl
+turns_differ Itself LeftAlone e = let firsts : 105 ≡ 108 = ap first_of e in grind (arith, firsts)
+turns_differ Itself AskedAgain e = let firsts : 105 ≡ 97 = ap first_of e in grind (arith, firsts)
+turns_differ LeftAlone Itself e = let firsts : 108 ≡ 105 = ap first_of e in grind (arith, firsts)
+turns_differ AskedAgain Itself e = let firsts : 97 ≡ 105 = ap first_of e in grind (arith, firsts)
 
 pub peer_lines_tell_turns : PeerLinesTellTurns
 peer_lines_tell_turns a b text an bn x y =

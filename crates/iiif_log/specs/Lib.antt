@@ -5,3 +5,4 @@ pub mod Moments
 pub mod PeerLines
 pub mod Waiting
 pub mod VersionLines
+pub mod RefusedLines

@@ -5,12 +5,13 @@ use Rattle.iiif_log.specs.Escapes.{escaped}
 use Rattle.iiif_log.specs.Moments.{IsMomentText}
 use Rattle.iiif_log.specs.declared.peer.PeerTurn.{PeerTurn}
 use Rattle.iiif_log.specs.declared.peer.Turn.{Turn}
-use Rattle.iiif_log.specs.declared.peer.Turn.TheVariants.{LeftAlone, AskedAgain}
+use Rattle.iiif_log.specs.declared.peer.Turn.TheVariants.{LeftAlone, AskedAgain, Itself}
 
 -- what became of it
 abbrev pub turn_word : Turn → List ℕ
 turn_word LeftAlone = codes "left-alone"
 turn_word AskedAgain = codes "asked-again"
+turn_word Itself = codes "itself"
 
 -- The words of a line at this time: when, that it is of another node, the node's name, what became of the link.
 abbrev pub peer_words : List ℕ → PeerTurn → List (List ℕ)

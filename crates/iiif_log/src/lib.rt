@@ -10,6 +10,7 @@ pub use moment::{Moment, NoMemory, push_moment};
 pub use other_version::{OtherVersion, version_line_bytes};
 pub use peer::{PeerTurn, Turn, peer_line_bytes};
 pub use queue::{Line, Queue, Taken};
+pub use refused_image::{RefusedImage, refused_line_bytes};
 
 pub mod answered;
 pub mod escape;
@@ -20,3 +21,4 @@ pub mod moment;
 pub mod other_version;
 pub mod peer;
 pub mod queue;
+pub mod refused_image;

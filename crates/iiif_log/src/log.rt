@@ -13,6 +13,7 @@ use crate::moment::NoMemory;
 use crate::other_version::{OtherVersion, version_line_bytes};
 use crate::peer::{PeerTurn, peer_line_bytes};
 use crate::queue::{Line, Queue, Taken};
+use crate::refused_image::{RefusedImage, refused_line_bytes};
 use iiif_io::{Outlet, send};
 use std::alloc::Global;
 use std::sync::{Condvar, Mutex, Wait};
@@ -51,6 +52,11 @@ impl Log {
     /// The same of the line of a node that asked for another version of a file.
     pub fn tell_other_version<R: Wait>(&self, rt: &R, told: &OtherVersion<'_>) {
         self.put(rt, version_line_bytes(self.alloc, told));
+    }
+
+    /// The same of the line of a node that refuses asks for an image.
+    pub fn tell_refused_image<R: Wait>(&self, rt: &R, told: &RefusedImage<'_>) {
+        self.put(rt, refused_line_bytes(self.alloc, told));
     }
 
     /// Puts a line behind the others, or counts one that couldn't be made.

@@ -17,6 +17,8 @@ pub enum Turn {
     LeftAlone,
     /// The node answered, and is asked again.
     AskedAgain,
+    /// Its address leads to the node that looks: it isn't asked.
+    Itself,
 }
 
 /// A link's turn, as a line tells it.
@@ -36,6 +38,7 @@ fn push_turn(text: &mut String, turn: Turn) -> Result<(), NoMemory>
     match turn {
         Turn::LeftAlone => text.push_str("left-alone\n"),
         Turn::AskedAgain => text.push_str("asked-again\n"),
+        Turn::Itself => text.push_str("itself\n"),
     }
 }
 

@@ -40,14 +40,23 @@ ask_samples a =
 abbrev pub asks_of_link : LinkMetrics → List ℕ
 asks_of_link l = flat_map (sample_line (codes "iiif_peer_asks_total")) (map (link_sample (string_bytes l.name)) (ask_samples l.asks))
 
--- 0 where it is asked, 1 where one ask tries it, 2 where it is left alone
+-- 0 where a node is asked, 1 where one ask tries it, 2 where it is left alone
 abbrev pub state_number : State → ℕ
 state_number (Closed faults) = 0
 state_number (HalfOpen since wait) = 1
 state_number (Open until wait) = 2
 
+-- so of a link, and 3 where the node is the one that asks
+abbrev pub link_number : LinkMetrics → ℕ
+link_number l = if l.is_itself then 3 else state_number l.state
+
 abbrev pub state_of_link : LinkMetrics → List ℕ
-state_of_link l = sample_line (codes "iiif_peer_state") (link_sample (string_bytes l.name) (codes "\"}", state_number l.state))
+state_of_link l = sample_line (codes "iiif_peer_state") (link_sample (string_bytes l.name) (codes "\"}", link_number l))
+
+-- how many images there are for which a node refused asks
+abbrev pub refusals_of_link : LinkMetrics → List ℕ
+refusals_of_link l =
+    sample_line (codes "iiif_peer_refused_images_total") (link_sample (string_bytes l.name) (codes "\"}", l.refused_images))
 
 -- the lines of help and of type of a family
 abbrev pub head_lines : List ℕ → List ℕ → MetricKind → List ℕ
@@ -58,9 +67,11 @@ abbrev pub links_text : List LinkMetrics → List ℕ
 links_text links =
     head_lines (codes "iiif_peer_asks_total") (codes "Asks of another node by how they ended, and those that weren't made.") Counter
     ++ flat_map asks_of_link links
-    ++ head_lines (codes "iiif_peer_state") (codes "0 where another node is asked, 1 where one ask tries it, 2 where it is left alone.")
-    Gauge
+    ++ head_lines (codes "iiif_peer_state")
+    (codes "0 where another node is asked, 1 where one ask tries it, 2 where it is left alone, 3 where it is this node.") Gauge
     ++ flat_map state_of_link links
+    ++ head_lines (codes "iiif_peer_refused_images_total") (codes "Images for which another node refused asks.") Counter
+    ++ flat_map refusals_of_link links
 
 -- how many asks took at most so many seconds
 abbrev pub bucket_samples : List ℕ → ℕ → List (List ℕ × ℕ)

@@ -3,8 +3,9 @@
 ghost use Rattle.std.specs.Prelude.{◌≡◌, ◌++◌, ◌∷◌, [], OnOk, IfOk, map, string_bytes};
 ghost use Rattle.std.specs.List.{flat_map};
 ghost use Rattle.iiif_metrics.specs.Exposition.{sample_line, sample_view};
-ghost use Rattle.iiif_metrics.specs.Links.{asks_of_link, ask_samples, bucket_samples, head_lines, label_byte, label_text, link_sample};
-ghost use Rattle.iiif_metrics.specs.Links.{link_labels, links_text, seconds_text, state_number, state_of_link, sum_line};
+ghost use Rattle.iiif_metrics.specs.Links.{asks_of_link, ask_samples, bucket_samples, head_lines, label_byte, label_text, link_number};
+ghost use Rattle.iiif_metrics.specs.Links.{link_labels, link_sample, links_text, refusals_of_link, seconds_text, state_number, state_of_link};
+ghost use Rattle.iiif_metrics.specs.Links.{sum_line};
 
 use crate::metrics::LinkMetrics;
 use crate::text::{
@@ -19,6 +20,9 @@ const ASKS: &str = "iiif_peer_asks_total";
 
 /// The family of the states.
 const STATE: &str = "iiif_peer_state";
+
+/// The family of the images for which asks were refused.
+const REFUSED: &str = "iiif_peer_refused_images_total";
 
 /// The family of the times.
 const SECONDS: &str = "iiif_peer_ask_seconds";
@@ -118,12 +122,31 @@ fn state_number(state: State) -> u64
     }
 }
 
+/// The number for a link: for its state, or for a node that is the one that asks.
+fn link_number(link: &LinkMetrics) -> u64
+    ensures { result ≡ link_number link.now }
+{
+    if link.is_itself {
+        3
+    } else {
+        state_number(link.state)
+    }
+}
+
 /// Writes whether a node is asked.
 fn push_state(alloc: Global, text: &mut Vec<u8>, link: &LinkMetrics) -> Result<(), NoMemory>
     ensures { OnOk result (text.new.items ≡ text.old.items ++ state_of_link link.now) }
 {
-    let sample = sample_of("\"}", state_number(link.state));
+    let sample = sample_of("\"}", link_number(link));
     push_link_sample(alloc, text, STATE, link.name.as_str(), &sample)
+}
+
+/// Writes for how many images a node refused asks.
+fn push_refusals(alloc: Global, text: &mut Vec<u8>, link: &LinkMetrics) -> Result<(), NoMemory>
+    ensures { OnOk result (text.new.items ≡ text.old.items ++ refusals_of_link link.now) }
+{
+    let sample = sample_of("\"}", link.refused_images);
+    push_link_sample(alloc, text, REFUSED, link.name.as_str(), &sample)
 }
 
 /// Writes the lines of help and of type of a family.
@@ -162,6 +185,20 @@ fn push_all_states(alloc: Global, text: &mut Vec<u8>, links: &[LinkMetrics]) -> 
     Ok(())
 }
 
+/// Writes for how many images each node refused asks.
+fn push_all_refusals(
+    alloc: Global,
+    text: &mut Vec<u8>,
+    links: &[LinkMetrics],
+) -> Result<(), NoMemory>
+    ensures { OnOk result (text.new.items ≡ text.old.items ++ flat_map refusals_of_link links.now) }
+{
+    for link in links {
+        push_refusals(alloc, text, link)?;
+    }
+    Ok(())
+}
+
 /// Writes what is told of each link.
 pub(crate) fn push_links(
     alloc: Global,
@@ -182,10 +219,18 @@ pub(crate) fn push_links(
         alloc,
         text,
         STATE,
-        "0 where another node is asked, 1 where one ask tries it, 2 where it is left alone.",
+        "0 where another node is asked, 1 where one ask tries it, 2 where it is left alone, 3 where it is this node.",
         MetricKind::Gauge,
     )?;
     push_all_states(alloc, text, links)?;
+    push_head(
+        alloc,
+        text,
+        REFUSED,
+        "Images for which another node refused asks.",
+        MetricKind::Counter,
+    )?;
+    push_all_refusals(alloc, text, links)?;
     Ok(())
 }
 

@@ -54,6 +54,10 @@ pub struct LinkMetrics {
     pub name: String,
     pub asks: Asks,
     pub state: State,
+    /// Whether the node's address leads to this node.
+    pub is_itself: bool,
+    /// How many images there are for which it refused asks.
+    pub refused_images: u64,
 }
 
 /// The numbers of all links: of each by itself, and how long the asks of all took. One histogram serves for all, since one for each link

@@ -6,14 +6,14 @@ ghost use Rattle.iiif_peer_link.specs.Places.{left_at, next_place};
 use std::alloc::Global;
 use std::net::SocketAddr;
 
-/// What a node's name stood for where it was looked up last, and which of these addresses is asked.
+/// Addresses that the last look-up of a node's name found, and which of them is asked.
 #[derive(Drop)]
 pub struct Addresses {
     found: Vec<SocketAddr>,
     place: usize,
 }
 
-/// The place behind this one, and behind the last the first.
+/// Returns the place behind this one, and behind the last the first.
 fn next_place(place: usize, count: usize) -> usize
     ensures { result ≡ next_place place count }
 {
@@ -24,7 +24,7 @@ fn next_place(place: usize, count: usize) -> usize
 }
 
 impl Addresses {
-    /// None is known yet.
+    /// Makes an empty list.
     pub fn unknown(alloc: Global) -> Addresses
         ensures { result.found.items ≡ [] }
     {
@@ -34,14 +34,14 @@ impl Addresses {
         }
     }
 
-    /// The place of the one that is asked.
+    /// Returns the place of the one that is asked.
     pub fn place(&self) -> usize
         ensures { result ≡ self.now.place }
     {
         self.place
     }
 
-    /// The one that is asked, where any is known.
+    /// Returns the one that is asked, where any is known.
     pub fn asked(&self) -> Option<SocketAddr>
         ensures { result ≡ slice_get self.now.found.items self.now.place }
     {
@@ -57,7 +57,7 @@ impl Addresses {
         }
     }
 
-    /// What was found takes the place of what was known.
+    /// Replaces the addresses by those of a new look-up.
     pub fn renew(&mut self, found: Vec<SocketAddr>)
         ensures found { self.new.found ≡ found }
         ensures asked { 0 < length found.items → self.new.place < length found.items }

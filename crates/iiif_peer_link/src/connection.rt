@@ -40,7 +40,7 @@ impl<'a, R: Reaches + Clock> Outlet for Connection<'a, R> {
     }
 }
 
-/// What is read answers what was written, as the runtime says.
+/// An exchange by the runtime's word: it says which bytes the node answers to those that were written.
 impl<'a, R: Reaches + Clock> Exchange<Within<Timed<'a, R>>> for Connection<'a, R> {
     ghost turned = { λ c reader. IsTrue R.keeps → Carries R.answers (R.written c.out.line) (R.unread reader.inner.line) };
 

@@ -7,7 +7,8 @@ use iiif_breaker::Outcome;
 use iiif_group::LinkFault;
 use iiif_peer_wire::WireFault;
 
-/// What an ask says of the node, `late` where its time was over. A node that refuses is there. Lack of memory here says nothing of it.
+/// Returns the outcome of an ask for the breaker, `late` where its time was over. A node that refuses is there. Lack of memory here says
+/// nothing of it.
 pub fn outcome_of<V>(came: &Result<V, LinkFault>, late: bool) -> Option<Outcome>
     ensures { result ≡ ask_end came.now late }
 {

@@ -1,4 +1,4 @@
-//! What is known of a node from one ask to the next.
+//! Health of a node: what its asks and its health checks told.
 
 use crate::addresses::Addresses;
 use crate::look::Look;
@@ -8,40 +8,53 @@ use std::net::SocketAddr;
 use std::sync::{Mutex, Wait};
 use std::time::{Clock, Instant};
 
-/// When the node was first asked or looked at, its addresses, whether they are to be looked up, whether a look found it there so far, and
-/// how its asks ended.
+/// When the node was first asked or looked at, its addresses, whether they are to be looked up, whether a look found it there so far,
+/// whether the last one that found anybody found the node that looks, and how its asks ended.
 #[derive(Drop)]
 struct Memory {
     start: Option<Instant>,
     addresses: Addresses,
     is_to_look_up: bool,
     was_met: bool,
+    is_itself: bool,
     record: LinkRecord,
 }
 
-/// An ask that is made.
-#[derive(Clone, Copy)]
-pub struct Turn {
-    pub number: u64,
+/// Leave to ask a node once. [`Health::begin`] alone gives it, where the link's breaker allows an ask. It can't be dropped: whoever has it
+/// reports how the ask ended, or releases it where nothing is known of that.
+pub struct AskSlot {
+    number: u64,
     /// Whether the node was left alone until now, and this is the one ask that tries it.
-    pub is_probe: bool,
+    is_probe: bool,
     /// Whether the node's name is to be looked up first.
-    pub is_to_look_up: bool,
+    is_to_look_up: bool,
     /// The place of its address, and the address, where one is known.
-    pub place: usize,
-    pub address: Option<SocketAddr>,
+    place: usize,
+    address: Option<SocketAddr>,
 }
 
-/// What is known of a node. Each ask that is made begins with its turn and ends with a report, and each look ends with what it found. All
-/// is done under a lock, as [`LinkRecord`] and [`Addresses`] say.
+impl AskSlot {
+    /// Returns whether the node's name is to be looked up first.
+    pub fn is_to_look_up(&self) -> bool {
+        self.is_to_look_up
+    }
+
+    /// Returns the address that is to be asked, where one is known.
+    pub fn address(&self) -> Option<SocketAddr> {
+        self.address
+    }
+}
+
+/// Health of a node. Each ask that is made begins with its slot and ends with a report, and each look ends with what it found. All is done
+/// under a lock, as [`LinkRecord`] and [`Addresses`] say.
 #[derive(Drop)]
 pub struct Health {
     memory: Mutex<Memory>,
 }
 
 impl Memory {
-    /// The milliseconds since the node was first asked or looked at, which is now where it wasn't yet. The last moment of all where there
-    /// is no clock.
+    /// Returns the milliseconds since the node was first asked or looked at, which is now where it wasn't yet. The last moment of all where
+    /// there is no clock.
     fn moment<R: Clock>(&mut self, rt: &R) -> u64 {
         let Ok(now) = Instant::now(rt) else {
             return u64::MAX;
@@ -50,12 +63,12 @@ impl Memory {
         u64::try_from(now.duration_since(start).as_millis()).unwrap_or(u64::MAX)
     }
 
-    /// Whether not all ask the node, since it failed.
+    /// Returns whether not all ask the node, since it failed.
     fn is_left_alone(&self) -> bool {
         !matches!(self.record.state(), State::Closed { .. })
     }
 
-    /// A look.
+    /// Makes a look.
     fn look(&self) -> Look {
         let is_left_alone = self.is_left_alone();
         Look {
@@ -67,10 +80,10 @@ impl Memory {
         }
     }
 
-    /// An ask of this number.
-    fn turn(&self, number: u64) -> Turn {
+    /// Makes the slot of an ask of this number.
+    fn slot(&self, number: u64) -> AskSlot {
         let is_probe = self.is_left_alone();
-        Turn {
+        AskSlot {
             number,
             is_probe,
             is_to_look_up: is_probe && self.is_to_look_up,
@@ -81,7 +94,7 @@ impl Memory {
 }
 
 impl Health {
-    /// Of a node that wasn't asked yet, whose name is to be looked up.
+    /// Makes the health of a node that wasn't asked yet, whose name is to be looked up.
     pub fn new(alloc: Global) -> Health {
         Health {
             memory: Mutex::new(Memory {
@@ -89,27 +102,52 @@ impl Health {
                 addresses: Addresses::unknown(alloc),
                 is_to_look_up: true,
                 was_met: false,
+                is_itself: false,
                 record: LinkRecord::new(),
             }),
         }
     }
 
-    /// The turn of an ask that is made now. None where the node is left alone.
-    pub fn begin<R: Clock + Wait>(&self, rt: &R) -> Option<Turn> {
+    /// Begins an ask, which is made now. None where the node is left alone, or is the one that asks.
+    pub fn begin<R: Clock + Wait>(&self, rt: &R) -> Option<AskSlot> {
         let mut guard = self.memory.lock(rt);
         let memory = &mut *guard;
+        if memory.is_itself {
+            return None;
+        }
         let now = memory.moment(rt);
         let number = memory.record.may_ask(now)?;
-        Some(memory.turn(number))
+        Some(memory.slot(number))
     }
 
-    /// The same turn with the address that is known by now.
-    pub fn again<R: Wait>(&self, rt: &R, turn: &Turn) -> Turn {
+    /// Returns the slot with the address that is known by now.
+    pub fn renew<R: Wait>(&self, rt: &R, slot: AskSlot) -> AskSlot {
+        let AskSlot {
+            number,
+            is_probe,
+            is_to_look_up,
+            place: _place,
+            address: _address,
+        } = slot;
         let guard = self.memory.lock(rt);
-        let mut again = *turn;
-        again.place = guard.addresses.place();
-        again.address = guard.addresses.asked();
-        again
+        AskSlot {
+            number,
+            is_probe,
+            is_to_look_up,
+            place: guard.addresses.place(),
+            address: guard.addresses.asked(),
+        }
+    }
+
+    /// Takes a slot back of which nothing is known: its ask wasn't made, or ended for want of memory here.
+    pub fn release(&self, slot: AskSlot) {
+        let AskSlot {
+            number: _number,
+            is_probe: _is_probe,
+            is_to_look_up: _is_to_look_up,
+            place: _place,
+            address: _address,
+        } = slot;
     }
 
     /// Takes in what a look-up found, unless that is nothing.
@@ -123,20 +161,32 @@ impl Health {
         memory.addresses.renew(found);
     }
 
-    /// Takes in how the ask of a turn ended, and says what becomes of the link. After a fault the next address is asked; after one of an
+    /// Takes in how the ask of a slot ended, and says what becomes of the link. After a fault the next address is asked; after one of an
     /// ask that was to try the node the next of these looks its name up.
-    pub fn report<R: Clock + Wait>(&self, rt: &R, turn: &Turn, outcome: Outcome) -> Option<Change> {
+    pub fn report<R: Clock + Wait>(
+        &self,
+        rt: &R,
+        slot: AskSlot,
+        outcome: Outcome,
+    ) -> Option<Change> {
+        let AskSlot {
+            number,
+            is_probe,
+            is_to_look_up: _is_to_look_up,
+            place,
+            address: _address,
+        } = slot;
         let mut guard = self.memory.lock(rt);
         let memory = &mut *guard;
         let now = memory.moment(rt);
         if matches!(outcome, Outcome::Failed | Outcome::TimedOut) {
-            memory.addresses.leave(turn.place);
-            memory.is_to_look_up = memory.is_to_look_up || turn.is_probe;
+            memory.addresses.leave(place);
+            memory.is_to_look_up = memory.is_to_look_up || is_probe;
         }
-        memory.record.report(now, turn.number, outcome)
+        memory.record.report(now, number, outcome)
     }
 
-    /// A look that is made now. None where none is due.
+    /// Begins a look, which is made now. None where none is due.
     pub fn begin_look<R: Clock + Wait>(&self, rt: &R) -> Option<Look> {
         let mut guard = self.memory.lock(rt);
         let memory = &mut *guard;
@@ -148,7 +198,7 @@ impl Health {
         }
     }
 
-    /// The same look with the address that is known by now.
+    /// Returns the look with the address that is known by now.
     pub fn look_again<R: Wait>(&self, rt: &R, look: &Look) -> Look {
         let guard = self.memory.lock(rt);
         let mut again = *look;
@@ -159,7 +209,22 @@ impl Health {
 
     /// Takes in that a look found the node there.
     pub fn report_met<R: Wait>(&self, rt: &R) {
-        self.memory.lock(rt).was_met = true;
+        let mut memory = self.memory.lock(rt);
+        memory.was_met = true;
+        memory.is_itself = false;
+    }
+
+    /// Takes in that a look found the node that looks, and says whether that is new.
+    pub fn report_itself<R: Wait>(&self, rt: &R) -> bool {
+        let mut memory = self.memory.lock(rt);
+        let is_new = !memory.is_itself;
+        memory.is_itself = true;
+        is_new
+    }
+
+    /// Returns whether the last look that found anybody found the node that looks.
+    pub fn is_itself<R: Wait>(&self, rt: &R) -> bool {
+        self.memory.lock(rt).is_itself
     }
 
     /// Takes in that a look was in vain, and says what becomes of the link: where an ask was answered since the look began, nothing does.
@@ -180,12 +245,17 @@ impl Health {
         change
     }
 
-    /// How its asks ended so far.
+    /// Returns its address that is asked, where one is known.
+    pub fn address<R: Wait>(&self, rt: &R) -> Option<SocketAddr> {
+        self.memory.lock(rt).addresses.asked()
+    }
+
+    /// Returns how its asks ended so far.
     pub fn asks<R: Wait>(&self, rt: &R) -> Asks {
         self.memory.lock(rt).record.asks()
     }
 
-    /// Whether it is asked.
+    /// Returns whether it is asked.
     pub fn state<R: Wait>(&self, rt: &R) -> State {
         self.memory.lock(rt).record.state()
     }

@@ -6,8 +6,8 @@
 pub use addresses::Addresses;
 pub use ask::ask_over;
 pub use exchange::Exchange;
-pub use health::{Health, Turn};
-pub use look::Look;
+pub use health::{AskSlot, Health};
+pub use look::{Found, Look, leads_to};
 pub use peer::{NoMemory, Peer, Stopwatch};
 pub use reaches::Reaches;
 pub use refusals::Refusals;

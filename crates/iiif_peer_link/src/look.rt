@@ -21,28 +21,64 @@ pub struct Look {
     pub address: Option<SocketAddr>,
 }
 
+/// Result of a look.
+#[derive(Clone, Copy, PartialEq, Eq)]
+pub enum Found {
+    /// Nobody answered in time.
+    Nobody,
+    /// The node.
+    Node,
+    /// The node that looks: the address leads to its own listener.
+    Itself,
+}
+
 /// Connects to an address and ends what is sent there before its first byte. Who listens there for nodes then ends the connection too.
-/// An error where it doesn't within a limit of time, and sends nothing either.
+/// Returns the address that the connection comes from. An error where the listener doesn't end it within a limit of time, or sends
+/// something.
 fn meet<R: Net<Stream = TcpStream> + Clock>(
     rt: &R,
     address: &SocketAddr,
     limit: Duration,
-) -> io::Result<()> {
+) -> io::Result<SocketAddr> {
     let deadline = Deadline::new(rt, limit)?;
     let mut stream = TcpStream::connect_timeout(rt, address, deadline.left()?)?;
+    let source = stream.local_addr()?;
     stream.shutdown(Shutdown::Write)?;
     stream.set_read_timeout(Some(deadline.left()?))?;
     let mut byte = [0u8; 1];
     stream.pull(&mut byte)?;
-    Ok(())
+    Ok(source)
+}
+
+/// Whether a connection from a source to a target comes to the listener at an address, which may be that of all of a host's addresses: then
+/// one of these is the target where it is a loopback address, or the source too.
+pub fn leads_to(listener: &SocketAddr, source: &SocketAddr, target: &SocketAddr) -> bool {
+    if target.port() != listener.port() {
+        return false;
+    }
+    let to = target.ip();
+    if listener.ip().is_unspecified() {
+        to.is_loopback() || to == source.ip()
+    } else {
+        to == listener.ip()
+    }
 }
 
 impl Look {
-    /// Whether the node is there, as is found within a limit of time.
-    pub fn is_met<R: Net<Stream = TcpStream> + Clock>(&self, rt: &R, limit: Duration) -> bool {
-        match &self.address {
-            Some(address) => meet(rt, address, limit).is_ok(),
-            None => false,
+    /// Looks for the node within a limit of time. Own is the address of the listener of the node that looks, where it is known.
+    pub fn find<R: Net<Stream = TcpStream> + Clock>(
+        &self,
+        rt: &R,
+        limit: Duration,
+        own: Option<&SocketAddr>,
+    ) -> Found {
+        let Some(address) = &self.address else {
+            return Found::Nobody;
+        };
+        match (meet(rt, address, limit), own) {
+            (Ok(source), Some(own)) if leads_to(own, &source, address) => Found::Itself,
+            (Ok(_), _) => Found::Node,
+            (Err(_), _) => Found::Nobody,
         }
     }
 }

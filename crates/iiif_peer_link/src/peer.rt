@@ -1,9 +1,10 @@
 //! Other nodes, as links reach them.
 
-use crate::health::{Health, Turn};
+use crate::health::{AskSlot, Health};
+use crate::look::Found;
 use crate::refusals::Refusals;
 use iiif_breaker::{Change, Durations};
-use iiif_log::{Log, Moment, PeerTurn, Turn as Told};
+use iiif_log::{Log, Moment, PeerTurn, RefusedImage, Turn};
 pub use std::alloc::AllocError as NoMemory;
 use std::alloc::Global;
 use std::net::{Net, SocketAddr, TcpStream, ToSocketAddrs};
@@ -24,15 +25,15 @@ pub struct Peer {
 /// How long a look may take at most, in milliseconds.
 const LOOK: u64 = 250;
 
-/// The log's word for what became of a link.
-fn told_of(change: Change) -> Told {
+/// Returns the log's word for a change of a link.
+fn told_of(change: Change) -> Turn {
     match change {
-        Change::LeftAlone => Told::LeftAlone,
-        Change::AskedAgain => Told::AskedAgain,
+        Change::LeftAlone => Turn::LeftAlone,
+        Change::AskedAgain => Turn::AskedAgain,
     }
 }
 
-/// What an address stands for. Where it can't be looked up, nothing.
+/// Resolves an address. Where it can't be looked up, nothing is found.
 fn look_up_address<R: Net>(
     rt: &R,
     alloc: Global,
@@ -48,7 +49,7 @@ fn look_up_address<R: Net>(
 }
 
 impl Peer {
-    /// A node that wasn't asked yet, and whose address wasn't looked up. The only error is lack of memory.
+    /// Makes a node that wasn't asked yet, and whose address wasn't looked up. The only error is lack of memory.
     pub fn new(
         alloc: Global,
         name: &str,
@@ -64,22 +65,22 @@ impl Peer {
         })
     }
 
-    /// Its name.
+    /// Returns its name.
     pub fn name(&self) -> &str {
         self.name.as_str()
     }
 
-    /// How long an ask may take.
+    /// Returns how long an ask may take.
     pub fn limit(&self) -> Duration {
         self.limit
     }
 
-    /// What is known of it.
+    /// Returns its health.
     pub fn health(&self) -> &Health {
         &self.health
     }
 
-    /// The images for which it refused asks.
+    /// Returns the images for which it refused asks.
     pub fn refusals(&self) -> &Refusals {
         &self.refusals
     }
@@ -91,20 +92,21 @@ impl Peer {
         }
     }
 
-    /// The turn of an ask that is made now, with its name looked up where that is to be done first. None where the node is left alone.
-    pub fn begin<R: Net + Clock + Wait>(&self, rt: &R, alloc: Global) -> Option<Turn> {
-        let turn = self.health.begin(rt)?;
-        if !turn.is_to_look_up {
-            return Some(turn);
+    /// Begins an ask, which is made now, and looks the node's name up where that is to be done first. None where the node is left alone.
+    pub fn begin<R: Net + Clock + Wait>(&self, rt: &R, alloc: Global) -> Option<AskSlot> {
+        let slot = self.health.begin(rt)?;
+        if !slot.is_to_look_up() {
+            return Some(slot);
         }
         self.look_up(rt, alloc);
-        Some(self.health.again(rt, &turn))
+        Some(self.health.renew(rt, slot))
     }
 
     /// Looks whether the node is there, where a look is due, so that no ask has to find out: it connects, ends what it sends, and waits for
     /// the node to do so too, for as long as an ask may take and a quarter of a second at most. A node that isn't there is left alone, and
-    /// one that is left alone isn't asked again for that. What becomes of the link is told to the log, where there is one.
-    pub fn look<R>(&self, rt: &R, alloc: Global, log: Option<&Log>)
+    /// one that is left alone isn't asked again for that. One whose address leads to the listener at the own address isn't asked at all.
+    /// The log is told of the link's change, where there is a log.
+    pub fn look<R>(&self, rt: &R, alloc: Global, log: Option<&Log>, own: Option<&SocketAddr>)
     where
         R: Net<Stream = TcpStream> + Clock + Wait,
     {
@@ -115,25 +117,55 @@ impl Peer {
             self.look_up(rt, alloc);
             look = self.health.look_again(rt, &look);
         }
-        if look.is_met(rt, self.limit.min(Duration::from_millis(LOOK))) {
-            self.health.report_met(rt);
-        } else {
-            let change = self.health.report_missed(rt, &look);
-            self.tell(rt, log, change);
+        match look.find(rt, self.limit.min(Duration::from_millis(LOOK)), own) {
+            Found::Node => self.health.report_met(rt),
+            Found::Itself => {
+                if self.health.report_itself(rt) {
+                    self.tell_turn(rt, log, Turn::Itself);
+                }
+            }
+            Found::Nobody => {
+                let change = self.health.report_missed(rt, &look);
+                self.tell(rt, log, change);
+            }
         }
     }
 
-    /// Tells the log what became of the link, where there is a log and something did.
-    pub fn tell<R: Clock + Wait>(&self, rt: &R, log: Option<&Log>, change: Option<Change>) {
-        if let (Some(change), Some(log)) = (change, log) {
+    /// Takes in that the node refused an ask for an image of this name. The first time that is told to the log, where there is one.
+    pub fn report_refused<R: Clock + Wait>(&self, rt: &R, log: Option<&Log>, image: &str) {
+        if !self.refusals.keep(rt, image) {
+            return;
+        }
+        if let Some(log) = log {
+            log.tell_refused_image(
+                rt,
+                &RefusedImage {
+                    at: Moment::now(rt),
+                    name: self.name.as_bytes(),
+                    image: image.as_bytes(),
+                },
+            );
+        }
+    }
+
+    /// Tells the log of a turn of the link, where there is a log.
+    fn tell_turn<R: Clock + Wait>(&self, rt: &R, log: Option<&Log>, turn: Turn) {
+        if let Some(log) = log {
             log.tell_turn(
                 rt,
                 &PeerTurn {
                     at: Moment::now(rt),
                     name: self.name.as_bytes(),
-                    turn: told_of(change),
+                    turn,
                 },
             );
+        }
+    }
+
+    /// Tells the log what became of the link, where there is a log and something did.
+    pub fn tell<R: Clock + Wait>(&self, rt: &R, log: Option<&Log>, change: Option<Change>) {
+        if let Some(change) = change {
+            self.tell_turn(rt, log, told_of(change));
         }
     }
 }
@@ -145,19 +177,19 @@ pub struct Stopwatch {
 }
 
 impl Stopwatch {
-    /// None was made yet.
+    /// Makes a stopwatch that timed no ask.
     pub fn new() -> Stopwatch {
         Stopwatch {
             durations: Mutex::new(Durations::new()),
         }
     }
 
-    /// One more took so many microseconds.
+    /// Counts one more, which took so many microseconds.
     pub fn count<R: Wait>(&self, rt: &R, micros: u64) {
         self.durations.lock(rt).count(micros);
     }
 
-    /// How long they took so far.
+    /// Returns how long they took so far.
     pub fn durations<R: Wait>(&self, rt: &R) -> Durations {
         *self.durations.lock(rt)
     }

@@ -20,7 +20,7 @@ pub struct Refusals {
 }
 
 impl Refusals {
-    /// None yet.
+    /// Makes an empty list.
     pub fn new(alloc: Global) -> Refusals {
         Refusals {
             alloc,
@@ -40,15 +40,21 @@ impl Refusals {
         }
     }
 
-    /// The node refused an ask for an image of this name now. Where there is no clock or no memory, or too many are remembered, it is
-    /// forgotten.
-    pub fn keep<R: Clock + Wait>(&self, rt: &R, name: &str) {
+    /// Keeps that the node refused an ask for an image of this name now, and says whether that is the first one for it. Where there is no
+    /// clock or no memory, or too many are remembered, it is forgotten, and none is the first.
+    pub fn keep<R: Clock + Wait>(&self, rt: &R, name: &str) -> bool {
         let (Ok(now), Ok(name)) = (Instant::now(rt), String::from_str(self.alloc, name)) else {
-            return;
+            return false;
         };
         let mut last = self.last.lock(rt);
-        if last.len() < MOST {
-            let _kept = last.insert(name, now);
+        if last.len() >= MOST {
+            return false;
         }
+        matches!(last.insert(name, now), Ok(None))
+    }
+
+    /// Returns for how many images the node refused an ask so far.
+    pub fn count<R: Wait>(&self, rt: &R) -> u64 {
+        self.last.lock(rt).len() as u64
     }
 }

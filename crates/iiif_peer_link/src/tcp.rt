@@ -9,7 +9,7 @@ ghost use Rattle.iiif_peer_link.specs.Versions.{wire_version};
 
 use crate::connection::Connection;
 use crate::ends::outcome_of;
-use crate::health::Turn;
+use crate::health::AskSlot;
 use crate::lengths::{sum_reply_len, tile_reply_len};
 use crate::peer::{Peer, Stopwatch};
 use crate::reaches::Reaches;
@@ -49,16 +49,16 @@ pub struct TcpLink<'p, J: System, R: Reaches> {
     pub ghost sure: { IsTrue J.honest → IsTrue R.keeps × IsHonestTo (IsSpelled (told_by versions)) R.answers J.stable J.pictures },
 }
 
-/// A connection to the address of a turn, where one is known, to read at most so many bytes from.
+/// Connects to the address of a slot, where one is known, to read at most so many bytes.
 fn connect<'a, R: Reaches + Clock>(
     rt: &'a R,
     deadline: &Deadline<'a, R>,
-    turn: &Turn,
+    slot: &AskSlot,
     most: u64,
 ) -> io::Result<Connection<'a, R>>
     ensures { IsTrue R.keeps → IfOk result (λ c. R.written c.out.line ≡ Some []) }
 {
-    let Some(address) = turn.address else {
+    let Some(address) = slot.address() else {
         return Err(io::Error::from(ErrorKind::NotFound));
     };
     let line = rt.connect(&address, deadline.left()?)?;
@@ -71,12 +71,12 @@ fn connect<'a, R: Reaches + Clock>(
     })
 }
 
-/// Asks the node at the address of a turn, on a connection of its own, for the value of the key that these bytes stand for, in a group, in
+/// Asks the node at the address of a slot, on a connection of its own, for the value of the key that these bytes stand for, in a group, in
 /// the version of the depth of an image of this shape. At most so many bytes of the reply are read.
 fn ask_at<'a, K: CacheKey, R: Reaches + Clock>(
     alloc: Global,
     rt: &'a R,
-    at: (&Deadline<'a, R>, &Turn),
+    at: (&Deadline<'a, R>, &AskSlot),
     group: u8,
     wire: &[u8],
     shape: &Shape,
@@ -86,9 +86,9 @@ fn ask_at<'a, K: CacheKey, R: Reaches + Clock>(
     ensures { (m : K.Value) → IsTrue R.keeps → TellsOf R.answers K.is_value K.val_bytes (wire_version shape.now.depth) group
         wire.now m → IfOk result (λ v. v ≡ m) }
 {
-    let (deadline, turn) = at;
+    let (deadline, slot) = at;
     let version = version_for(shape.depth);
-    match connect(rt, deadline, turn, most) {
+    match connect(rt, deadline, slot, most) {
         Ok(connection) => {
             ask_spelled_over::<K, Within<Timed<'a, R>>, Connection<'a, R>>(
                 alloc, connection, version, group, wire,
@@ -99,7 +99,7 @@ fn ask_at<'a, K: CacheKey, R: Reaches + Clock>(
 }
 
 impl<'p, J: System, R: Reaches> TcpLink<'p, J, R> {
-    /// A link to a node. How long its asks take is counted by the stopwatch, and what becomes of it is told to the log, where there is one.
+    /// Makes a link to a node. The stopwatch counts how long its asks take, and the log is told of its changes, where there is one.
     pub fn new(
         alloc: Global,
         peer: &'p Peer,
@@ -111,7 +111,7 @@ impl<'p, J: System, R: Reaches> TcpLink<'p, J, R> {
         TcpLink::versioned(alloc, peer, watch, log, None)
     }
 
-    /// The same, of which each key has the version of its image's file behind the name, where versions are known.
+    /// Makes a link of which each key has the version of its image's file behind the name, where versions are known.
     pub fn versioned(
         alloc: Global,
         peer: &'p Peer,
@@ -132,7 +132,7 @@ impl<'p, J: System, R: Reaches> TcpLink<'p, J, R> {
         }
     }
 
-    /// Whether the node is asked for an image of this name: not where it said of late that it knows none, or another one.
+    /// Returns whether the node is asked for an image of this name: not where it said of late that it knows none, or another one.
     fn is_asked_for(&self, rt: &R, name: &Name) -> bool
     where
         R: Clock + Wait,
@@ -140,11 +140,11 @@ impl<'p, J: System, R: Reaches> TcpLink<'p, J, R> {
         !self.peer.refusals().has(rt, name.as_str())
     }
 
-    /// Takes in how the ask of a turn for a part of an image of this name ended.
+    /// Takes in how the ask of a slot for a part of an image of this name ended.
     fn report<V>(
         &self,
         rt: &R,
-        turn: &Turn,
+        slot: AskSlot,
         deadline: &Deadline<'_, R>,
         name: &Name,
         came: &Result<V, LinkFault>,
@@ -153,14 +153,16 @@ impl<'p, J: System, R: Reaches> TcpLink<'p, J, R> {
         R: Clock + Wait,
     {
         if is_of_other_images(came) {
-            self.peer.refusals().keep(rt, name.as_str());
+            self.peer.report_refused(rt, self.log, name.as_str());
         }
-        let Some(outcome) = outcome_of(came, deadline.left().is_err()) else {
-            return;
-        };
-        self.watch.count(rt, deadline.micros());
-        let change = self.peer.health().report(rt, turn, outcome);
-        self.peer.tell(rt, self.log, change);
+        match outcome_of(came, deadline.left().is_err()) {
+            Some(outcome) => {
+                self.watch.count(rt, deadline.micros());
+                let change = self.peer.health().report(rt, slot, outcome);
+                self.peer.tell(rt, self.log, change);
+            }
+            None => self.peer.health().release(slot),
+        }
     }
 }
 
@@ -185,12 +187,15 @@ impl<'p, J: System, R: Reaches + Net + Clock + Wait> Link<TileKey, J, R> for Tcp
         let Some(wire) = spelled_key(self.alloc, self.versions, key, shape) else {
             return Err(LOST);
         };
-        let turn = self.peer.begin(rt, self.alloc).ok_or(LOST)?;
-        let deadline = Deadline::new(rt, self.peer.limit()).map_err(|_| LOST)?;
+        let slot = self.peer.begin(rt, self.alloc).ok_or(LOST)?;
+        let Ok(deadline) = Deadline::new(rt, self.peer.limit()) else {
+            self.peer.health().release(slot);
+            return Err(LOST);
+        };
         let most = tile_reply_len(key, shape);
-        let at = (&deadline, &turn);
+        let at = (&deadline, &slot);
         let came = ask_at::<TileKey, R>(self.alloc, rt, at, 1, wire.as_slice(), shape, most);
-        self.report(rt, &turn, &deadline, &key.name, &came);
+        self.report(rt, slot, &deadline, &key.name, &came);
         came
     }
 }
@@ -203,12 +208,15 @@ impl<'p, J: System, R: Reaches + Net + Clock + Wait> Link<SumKey, J, R> for TcpL
         let Some(wire) = spelled_key(self.alloc, self.versions, key, shape) else {
             return Err(LOST);
         };
-        let turn = self.peer.begin(rt, self.alloc).ok_or(LOST)?;
-        let deadline = Deadline::new(rt, self.peer.limit()).map_err(|_| LOST)?;
+        let slot = self.peer.begin(rt, self.alloc).ok_or(LOST)?;
+        let Ok(deadline) = Deadline::new(rt, self.peer.limit()) else {
+            self.peer.health().release(slot);
+            return Err(LOST);
+        };
         let most = sum_reply_len(key, shape);
-        let at = (&deadline, &turn);
+        let at = (&deadline, &slot);
         let came = ask_at::<SumKey, R>(self.alloc, rt, at, 2, wire.as_slice(), shape, most);
-        self.report(rt, &turn, &deadline, &key.name, &came);
+        self.report(rt, slot, &deadline, &key.name, &came);
         came
     }
 }

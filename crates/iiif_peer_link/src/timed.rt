@@ -33,7 +33,7 @@ impl<'a, R: Clock> Deadline<'a, R> {
         self.rt
     }
 
-    /// The same end.
+    /// Returns a deadline that ends with this one.
     pub fn again(&self) -> Deadline<'a, R> {
         Deadline {
             rt: self.rt,

@@ -16,21 +16,21 @@ use std::alloc::Global;
 /// The most asks of one connection.
 pub const ASK_LIMIT: u32 = 1000;
 
-/// What answers the asks of other nodes. R is the runtime, and P what calls are counted by.
+/// Service that answers the asks of other nodes. R is the runtime, and P counts calls.
 pub trait Answers<R, P> {
-    /// What may be replied to an ask of a version, a group and a key: a status and a value.
+    /// Replies that may be given to an ask of a version, a group and a key: a status and a value.
     ghost answers: { Self → Version → ℕ → List ℕ → ℕ → List ℕ → Type 0 };
 
-    /// The status and the value of the reply to an ask. It comes from this node: no other node is asked for the key.
+    /// Returns the status and the value of the reply to an ask. It comes from this node: no other node is asked for the key.
     fn answer(&self, rt: &R, alloc: Global, passes: &mut P, ask: &Ask) -> (u8, Vec<u8>)
         requires { IsAsk ask.now.group ask.now.key.items }
         ensures spelled { IsReply ask.now.key.items result.0 result.1.items }
         ensures allowed { answers self.now ask.now.version ask.now.group ask.now.key.items result.0 result.1.items };
 }
 
-/// Who answers the asks of a connection, and what it takes.
+/// Service of a connection, with its runtime and its allocator.
 #[derive(Drop)]
-struct Desk<'a, 's, R, A> {
+struct PeerService<'a, 's, R, A> {
     rt: &'a R,
     alloc: Global,
     service: &'s A,
@@ -38,7 +38,7 @@ struct Desk<'a, 's, R, A> {
 
 /// Answers the next ask of a connection, which is its `n`-th. Says whether another may follow.
 fn serve_next<R, P, A: Answers<R, P>, I: Inlet, W: Outlet>(
-    desk: &Desk<'_, '_, R, A>,
+    peers: &PeerService<'_, '_, R, A>,
     passes: &mut P,
     reader: &mut I,
     n: u32,
@@ -46,15 +46,15 @@ fn serve_next<R, P, A: Answers<R, P>, I: Inlet, W: Outlet>(
 ) -> bool
     requires few { n ≤ ask_limit }
     ensures served { (text : List ℕ) × Appends (W.contents out.old) (W.contents out.new) text
-        × Served (A.answers desk.now.service.now) (LeftAt I.fails reader.new) (LeftAt W.fails out.new)
+        × Served (A.answers peers.now.service.now) (LeftAt I.fails reader.new) (LeftAt W.fails out.new)
         n (I.remaining reader.old) (I.remaining reader.new) text result }
     ensures few { IsTrue result → n < ask_limit }
 {
-    let ask = match read_ask(desk.alloc, reader) {
+    let ask = match read_ask(peers.alloc, reader) {
         Ok(Some(ask)) => ask,
         Ok(None) | Err(_) => return false,
     };
-    let (status, value) = desk.service.answer(desk.rt, desk.alloc, passes, &ask);
+    let (status, value) = peers.service.answer(peers.rt, peers.alloc, passes, &ask);
     match write_reply(out, ask.version, &ask.key, status, &value) {
         Ok(()) => n < ASK_LIMIT,
         Err(_) => false,
@@ -76,9 +76,9 @@ pub fn serve_peer<R, P, A: Answers<R, P>, I: Inlet, W: Outlet>(
         × IsExchange (A.answers service.now) (LeftAt I.fails reader.new) (LeftAt W.fails out.new) (IsInput (I.remaining reader.new)) came
         output }
 {
-    let desk = Desk { rt, alloc, service };
+    let peers = PeerService { rt, alloc, service };
     let mut n = 1;
-    while serve_next(&desk, passes, reader, n, out) {
+    while serve_next(&peers, passes, reader, n, out) {
         n += 1;
     }
 }

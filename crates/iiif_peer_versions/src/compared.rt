@@ -11,14 +11,14 @@ use iiif_peer_server::Answers;
 use iiif_peer_wire::Ask;
 use std::alloc::Global;
 
-/// Who is told of asks for other versions of files.
+/// Listener for asks for other versions of files.
 pub trait Notice<R> {
-    /// Another version of the file of an image of this name was asked for.
+    /// Takes in that another version of the file of an image of this name was asked for.
     fn report_other(&self, rt: &R, name: &str);
 }
 
-/// What answers asks by what answers those of keys as they are. Where versions of images' files are known, each key has its image's behind
-/// the name: it is taken off where it is the one that is known, and else the name is unknown, and who is told of such asks is told.
+/// Service that compares versions of files, over one that answers keys as they are. Where versions of images' files are known, each key has
+/// its image's behind the name: it is stripped where it is the one that is known, and else the name is unknown, and the listener is told.
 #[derive(Drop)]
 pub struct Compared<'a, A, V> {
     pub service: &'a A,
@@ -27,7 +27,7 @@ pub struct Compared<'a, A, V> {
 }
 
 impl<'a, A, V> Compared<'a, A, V> {
-    /// Tells of an ask that gets no value, where it is one for another version of an image's file.
+    /// Tells the listener of an ask that gets no value, where it is one for another version of an image's file.
     fn tell_other<R>(&self, rt: &R, versions: &FileVersions, ask: &Ask)
     where
         V: Notice<R>,
@@ -37,7 +37,7 @@ impl<'a, A, V> Compared<'a, A, V> {
         }
     }
 
-    /// The reply to an ask whose key has a version.
+    /// Returns the reply to an ask whose key has a version.
     fn answer_version<R, P>(
         &self,
         rt: &R,

@@ -22,7 +22,7 @@ pub struct FileVersions {
 impl FileVersions {
     ghost use Rattle.iiif_peer_versions.specs.Told.{told};
 
-    /// Those of no image.
+    /// Makes an empty list.
     pub fn new(alloc: Global) -> FileVersions
         ensures { (name : List ℕ) → told result name ≡ None }
     {
@@ -31,7 +31,7 @@ impl FileVersions {
         }
     }
 
-    /// The version of the file of one more image, or another one of the same. The only error is lack of memory.
+    /// Adds the version of the file of an image, in place of one that was added before. The only error is lack of memory.
     pub fn add(&mut self, alloc: Global, name: &str, version: FileVersion) -> Result<(), AllocError>
         ensures { OnOk result ((other : List ℕ) →
             told self.new other ≡ update bytes_eq (told self.old) name.now (Some (version_digits version)) other) }
@@ -41,14 +41,14 @@ impl FileVersions {
         Ok(())
     }
 
-    /// The digits of the version of the file of an image, where one is known.
+    /// Returns the digits of the version of the file of an image, where one is known.
     pub fn digits_of(&self, name: &str) -> Option<[u8; 32]>
         ensures { result ≡ told self.now name.now }
     {
         self.digits.get(name).copied()
     }
 
-    /// The same of an image whose name these bytes are. None where they are no name that has room for a version.
+    /// Returns those of the image whose name these bytes are. None where they are no name that has room for a version.
     pub(crate) fn told_of(&self, name: &[u8]) -> Option<[u8; 32]>
         ensures told { IfSome result (λ digits. told self.now name.now ≡ Some digits) }
         ensures size { IfSome result (λ digits. length digits ≡ 32) }

@@ -1,4 +1,4 @@
-//! What holds of every key that is spelled with a version. The functions compute nothing: the contract of each is a law.
+//! Laws of every key that is spelled with a version. The functions compute nothing: the contract of each is a law.
 
 ghost use Rattle.iiif_peer_versions.specs.Laws.{KeysStayApart, PlainIsAsItIs, PlainIsRepliedTo, VersionsStayApart};
 

@@ -1,4 +1,4 @@
-//! What holds of every message. The function computes nothing: its contract is the law.
+//! A law of every message. The function computes nothing: its contract is the law.
 
 ghost use Rattle.iiif_peer_wire.specs.Reading.{RefusesOtherVersions};
 

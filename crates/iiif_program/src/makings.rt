@@ -5,7 +5,7 @@ ghost use Rattle.iiif_answers.specs.Settings.{refusal_of};
 ghost use Rattle.iiif_program.specs.Lines.{settings_in};
 
 use crate::settings::config;
-use iiif_command_line::Options;
+use iiif_command_line::{Mode, Options};
 use iiif_connections::{Catalogue, Config, Nodes, Room, Times, Watcher};
 use iiif_open_files::Opens;
 use iiif_peer_versions::FileVersions;
@@ -78,8 +78,13 @@ pub(crate) fn watcher_of<'a, R: Opens + Wait>(
     logs: bool,
     versions: Option<FileVersions>,
 ) -> Result<Watcher, Stop<'a>> {
+    let listen = match options.mode {
+        Mode::Listen { peers, .. } => peers.unwrap_or(""),
+        Mode::One { .. } | Mode::Check => "",
+    };
     let nodes = Nodes {
         own: options.name,
+        listen,
         peers: &options.peers,
         ask: Times::within(options.limits).ask,
     };

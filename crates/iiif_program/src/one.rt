@@ -50,7 +50,7 @@ where
     let Some(mut passes) = TakenPasses::take(rt, alloc, node, workers) else {
         return Err(Stop::Memory);
     };
-    let sent = node.send_body(rt, alloc, passes.lend(), target.as_bytes(), out);
+    let sent = node.body_one(rt, alloc, passes.lend(), target.as_bytes(), out);
     passes.give_back(rt, node);
     match sent {
         Ok(_) => Ok(()),

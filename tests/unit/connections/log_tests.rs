@@ -97,6 +97,7 @@ fn log_of<R: Wait + Clock>(
 ) -> Result<Vec<u8>, Fail> {
     let nodes = Nodes {
         own: "self",
+        listen: "",
         peers: &[],
         ask: 1_000,
     };

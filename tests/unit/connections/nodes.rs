@@ -65,6 +65,7 @@ pub(crate) fn watcher_of(alloc: Global, scene: &Scene<'_, '_>, held: Held) -> Op
     }
     let nodes = Nodes {
         own: "self",
+        listen: "",
         peers: &peers,
         ask: scene.times.ask,
     };

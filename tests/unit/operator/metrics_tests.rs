@@ -95,6 +95,8 @@ fn link(alloc: Global) -> Result<LinkMetrics, NoMemory> {
             until: 1,
             wait: 1_000,
         },
+        is_itself: false,
+        refused_images: 36,
     })
 }
 
@@ -201,9 +203,12 @@ iiif_peer_asks_total{peer=\"b\\\"\\\\\\n\u{e9}\",outcome=\"refused\"} 32
 iiif_peer_asks_total{peer=\"b\\\"\\\\\\n\u{e9}\",outcome=\"failed\"} 33
 iiif_peer_asks_total{peer=\"b\\\"\\\\\\n\u{e9}\",outcome=\"late\"} 34
 iiif_peer_asks_total{peer=\"b\\\"\\\\\\n\u{e9}\",outcome=\"left_alone\"} 35
-# HELP iiif_peer_state 0 where another node is asked, 1 where one ask tries it, 2 where it is left alone.
+# HELP iiif_peer_state 0 where another node is asked, 1 where one ask tries it, 2 where it is left alone, 3 where it is this node.
 # TYPE iiif_peer_state gauge
 iiif_peer_state{peer=\"b\\\"\\\\\\n\u{e9}\"} 2
+# HELP iiif_peer_refused_images_total Images for which another node refused asks.
+# TYPE iiif_peer_refused_images_total counter
+iiif_peer_refused_images_total{peer=\"b\\\"\\\\\\n\u{e9}\"} 36
 ";
 
 /// The answer to this input.

@@ -3,8 +3,8 @@ use Rattle.iiif_peer_wire.specs.Faults.{LeftAt}
 use Rattle.iiif_peer_server.proofs.ExchangeLemmas.{CameSo}
 use Rattle.iiif_peer_server.proofs.serve.serve_peer.Given as goal
 
-abbrev pub invariant-loop-desk : goal.invariant-loop-desk
-invariant-loop-desk g l =
+abbrev pub invariant-loop-peers : goal.invariant-loop-peers
+invariant-loop-peers g l =
     record {
       few : l.n ≤ 1000;
       came : CameSo (g.A.Answers.answers l.fn.service) (LeftAt g.I.Inlet.fails) (LeftAt g.W.Outlet.fails) g.I.Read.remaining l.n
@@ -12,5 +12,5 @@ invariant-loop-desk g l =
           (g.I.Read.remaining l.reader) (g.W.Write.contents l.fn.out) (g.W.Write.contents l.out);
     }
 
-abbrev pub decreases-loop-desk : goal.decreases-loop-desk
-decreases-loop-desk g l = 1000 - l.n
+abbrev pub decreases-loop-peers : goal.decreases-loop-peers
+decreases-loop-peers g l = 1000 - l.n

@@ -10,8 +10,8 @@ pub returns-in-Ok : goal.returns-in-Ok
 returns-in-Ok g c = record {
   held = λ held is_honest.
       whole_of g.R.Opens.holds g.R.Opens.keeps g.J.System.honest c.args.node.now.settings c.args.node.now.items c.args.target.now
-      ((b : g.row.O.Denot) × g.O.Outlet.fails b c.send_body-sent.new.out) (g.O.Write.contents c.args.out.now)
-      (g.O.Write.contents c.send_body-sent.new.out) held is_honest
+      ((b : g.row.O.Denot) × g.O.Outlet.fails b c.body_one-sent.new.out) (g.O.Write.contents c.args.out.now)
+      (g.O.Write.contents c.body_one-sent.new.out) held is_honest
       c.as_bytes.result.now c.as_bytes.ensures.value _ c.in-Ok.ensures.allowed;
 }
 
@@ -19,7 +19,7 @@ pub returns-in-Err : goal.returns-in-Err
 returns-in-Err g c = record {
   held = λ held is_honest.
       cut_off_of g.R.Opens.holds g.R.Opens.keeps g.J.System.honest c.args.node.now.settings c.args.node.now.items c.args.target.now
-      ((b : g.row.O.Denot) × g.O.Outlet.fails b c.send_body-sent.new.out) (g.O.Write.contents c.args.out.now)
-      (g.O.Write.contents c.send_body-sent.new.out) held is_honest
+      ((b : g.row.O.Denot) × g.O.Outlet.fails b c.body_one-sent.new.out) (g.O.Write.contents c.args.out.now)
+      (g.O.Write.contents c.body_one-sent.new.out) held is_honest
       c.as_bytes.result.now c.as_bytes.ensures.value c.in-Err.cut c.in-Err.ensures.allowed;
 }

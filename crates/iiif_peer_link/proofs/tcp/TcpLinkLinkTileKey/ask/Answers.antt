@@ -5,8 +5,8 @@ use Rattle.iiif_peer_versions.specs.Keys.{IsSpelled}
 use Rattle.iiif_peer_versions.specs.Told.{told_by}
 use Rattle.iiif_peer_link.proofs.tcp.TcpLinkLinkTileKey.ask.Goals as goal
 
-pub returns : goal.returns
-returns g c stable honest =
+pub returns-clause-meant : goal.returns-clause-meant
+returns-clause-meant g c stable honest =
     let key = c.args.key.now in
     let sure = c.args.self.now.sure honest in
     let spelled = subst (IsSpelled (told_by c.args.self.now.versions) (tile_key_bytes key)) (sym c.as_slice.ensures.value)
