@@ -1,7 +1,7 @@
 //! Tests of `iiif_server`, which call only what is public: answers of a node, calls and connections; images made of tiles and blocks
 //! beside those of whole regions, and results above their regions; whole answers beside a plain evaluation of the definitions on whole
 //! pictures, whatever the bands, the workers and the caches; workers that load at the same time; and bands that fail;
-//! jobs that wait for others; the laws of answers at memory.
+//! jobs that wait for others; the laws of answers at memory; and two servers, one of which asks the other.
 
 mod answer_tests;
 mod assembly_tests;
@@ -23,3 +23,4 @@ mod settings_tests;
 mod sizes_tests;
 mod stream_tests;
 mod told;
+mod two_servers_tests;

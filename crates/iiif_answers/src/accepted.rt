@@ -23,7 +23,7 @@ pub struct Accepted {
     pub kind: OutKind,
 }
 
-/// What the words of a request come to for an image, of which nothing is loaded.
+/// Accepts or refuses the words of a request for an image, of which nothing is loaded.
 pub(crate) fn accept<R, S: Source<R>>(
     entry: &ImageEntry<R, S>,
     limits: &Limits,

@@ -1,4 +1,4 @@
-//! What a call ends with.
+//! How calls end.
 
 use iiif_keys::Fault;
 
@@ -13,7 +13,7 @@ pub struct Sent {
     pub held: u64,
 }
 
-/// What ended an answer too soon.
+/// Cause of an answer that is cut off.
 #[derive(Clone, Copy, Debug, PartialEq, Eq)]
 pub enum Cause {
     /// The writer failed.

@@ -77,7 +77,7 @@ fn is_hierarchy(rest: &str) -> bool
     }
 }
 
-/// What stands behind the scheme.
+/// Returns the part behind the scheme.
 #[tactic(auto, unfolding(crate::specs::BaseUrl::behind_scheme))]
 fn behind_scheme(url: &str) -> Option<&str>
     ensures { option_map (λ s. s.now) result ≡ behind_scheme url.now }

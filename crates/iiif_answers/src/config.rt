@@ -1,4 +1,4 @@
-//! What a server is told before it starts.
+//! Settings of a server.
 
 ghost use Rattle.std.specs.Prelude.{◌≡◌, ◌<◌};
 ghost use Rattle.iiif_keys.specs.Blocks.{IsEdge};
@@ -44,7 +44,7 @@ impl ConfigFault {
     }
 }
 
-/// What a server was told, all of it legal.
+/// Settings of a server, all of them legal.
 #[derive(Drop)]
 pub struct Config {
     base: String,

@@ -121,7 +121,7 @@ pub fn head_message<R, S: Source<R>>(
     })
 }
 
-/// What an accepted request of an image comes to, planned of tiles with this edge.
+/// Plans the job of an accepted request of an image, of tiles with this edge.
 pub fn job_of<R, S: Source<R>>(
     alloc: Global,
     edge: u32,

@@ -1,5 +1,5 @@
-//! What holds of connections and of answers. The functions compute nothing: their contracts are the laws, for those who read
-//! those of `serve_stream` and `serve_one` of `iiif_server`.
+//! Laws of connections and of answers. The functions compute nothing: their contracts are the laws, beside those of `serve_stream` and
+//! `serve_one` of `iiif_server`.
 
 ghost use Rattle.iiif_answers.specs.Devices.{WholeOverHonestDevices};
 ghost use Rattle.iiif_answers.specs.Laws.{AllowedIsFramed, FieldsArePlain, HeadsReadBack, NoSilence};

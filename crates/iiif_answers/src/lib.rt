@@ -1,5 +1,5 @@
-//! What is answered, apart from the node that makes it: what a server is told, what targets and calls come to, the answers as
-//! they are written, and what holds of them.
+//! Answers, apart from the node that makes them: a server's settings, the outcomes of targets and calls, the answers as they are written,
+//! and their laws.
 #![tactic(auto)]
 
 pub use answer::{Cause, Cut, Sent};

@@ -199,7 +199,7 @@ fn information_message(
     )
 }
 
-/// What is told where a target comes to no image. The only error is lack of memory.
+/// Makes the answer to a target that comes to no image. The only error is lack of memory.
 pub fn message_of<R, S: Source<R>>(
     alloc: Global,
     part: Part,

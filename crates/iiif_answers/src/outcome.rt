@@ -1,4 +1,4 @@
-//! What a target comes to before anything is loaded or sent.
+//! Outcomes of targets, before anything is loaded or sent.
 
 ghost use Rattle.std.specs.Prelude.{◌≡◌, ℕ, Bool, List};
 ghost use Rattle.iiif_pixel.specs.Picture.{Picture, dim_of};
@@ -17,7 +17,7 @@ use iiif_tiff::shows_one_picture;
 use iiif_tile_group::{Catalogue, ImageEntry};
 use std::alloc::Global;
 
-/// What a target comes to: a refusal; the place of an image's information; that information, with the image's sides; an
+/// Outcome of a target: a refusal; the place of an image's information; that information, with the image's sides; an
 /// accepted request of an image; or lack of memory.
 #[derive(Drop)]
 pub enum Outcome<'a, R, S: Source<R>> {
@@ -50,7 +50,7 @@ fn sides<R, S: Source<R>>(entry: &ImageEntry<R, S>) -> Dim
     entry.layout.dim()
 }
 
-/// What this comes to, where it is asked for, on a server that was told this and has these images.
+/// Returns the outcome of a resource on a server with these settings and images.
 fn outcome_for<'a, R, S: Source<R> + Drop>(
     config: &Config,
     images: &'a Catalogue<R, S>,
@@ -74,7 +74,7 @@ fn outcome_for<'a, R, S: Source<R> + Drop>(
     }
 }
 
-/// What a target comes to, on a server that was told this and has these images. Nothing is loaded for it.
+/// Returns the outcome of a target on a server with these settings and images. Nothing is loaded for it.
 pub fn outcome_of<'a, R, S: Source<R> + Drop>(
     alloc: Global,
     config: &Config,

@@ -1,12 +1,14 @@
 -- What a node sends: for a call, for a target, and over a connection.
-use Rattle.std.specs.Prelude.{◌≡◌, ℕ, Bool, false, List, Option, Result, IfSome}
+use Rattle.std.specs.Prelude.{◌≡◌, ℕ, Bool, false, List, Option, Result, IfSome, IsTrue}
 use Rattle.std.specs.Io.KnownBytes.{Appends}
 use Rattle.iiif_http_front.specs.Methods.{method_text}
 use Rattle.iiif_http_front.specs.declared.call.Call.{Call}
+use Rattle.iiif_source.specs.declared.ReadFault.{ReadFault}
 use Rattle.iiif_source.specs.declared.Source as source
 use Rattle.iiif_answers.specs.Allowed.{Allowed, IsFramedText}
 use Rattle.iiif_answers.specs.Answers.{Given, Replies, given}
 use Rattle.iiif_answers.specs.Calls.{RepliesToCall, part_of}
+use Rattle.iiif_answers.specs.Devices.{IsWholeOrWanting}
 use Rattle.iiif_answers.specs.Responses.{is_loaded}
 use Rattle.iiif_answers.specs.Streams.{IsCame, IsConnection, Terms, terms}
 use Rattle.iiif_answers.specs.declared.answer.Sent.{Sent}
@@ -33,6 +35,20 @@ module _ {S R : Type 0} (sources : source.Ghosts S R) (honest : Bool) (node : Se
       × Allowed node.settings (part_of (method_text call.method) call.close) sources.gave
       (RepliesToCall sources.bytes sources.keeps honest node.settings node.items (method_text call.method) call.target.items)
       ((before : W) × fails before new) text result
+
+  -- Where a call reaches an image, reads of images that it reaches gave no fault, and the writer didn't fail, the text is that of the
+  -- whole image; or, for lack of memory, that is answered or the image is cut off. Nothing else takes its place.
+  abbrev pub SendsWhole : {W : Type 0} → Call → (W → Option (List ℕ)) → (W → W → Type 0) → W → W → Result Sent cut.Cut → Type 0
+  SendsWhole {W} call contents fails old new result =
+      ((g : Given S) (f : ReadFault)
+      → RepliesToCall sources.bytes sources.keeps honest node.settings node.items (method_text call.method) call.target.items (given g)
+      → ¬ IsTrue (sources.gave g.item.source f))
+      → ¬ ((before : W) × fails before new)
+      → (g : Given S)
+      → RepliesToCall sources.bytes sources.keeps honest node.settings node.items (method_text call.method) call.target.items (given g)
+      → (text : List ℕ) × Appends (contents old) (contents new) text
+      × IsWholeOrWanting node.settings (part_of (method_text call.method) call.close)
+      (RepliesToCall sources.bytes sources.keeps honest node.settings node.items (method_text call.method) call.target.items) text result
 
   -- Where no image is loaded for a call, as for HEAD, the passes stay as they are.
   abbrev pub SparesForCall : {P : Type 0} → Call → List P → List P → Type 0

@@ -1,4 +1,4 @@
-//! What answers are made of.
+//! Parts of a request that private functions hand on.
 
 use iiif_answers::Part;
 use iiif_answers::accepted::Accepted;
@@ -7,16 +7,16 @@ use iiif_source::Source;
 use iiif_tile_group::ImageEntry;
 use std::alloc::Global;
 
-/// What a node answers with.
+/// Runtime and allocator of an answer.
 #[derive(Drop)]
 pub(crate) struct Host<'a, R> {
     /// The runtime.
     pub rt: &'a R,
-    /// What memory is taken of.
+    /// The allocator.
     pub alloc: Global,
 }
 
-/// What is asked of an image: a part of the answer to a request that was accepted.
+/// An accepted request of an image, and the part of its answer that is sent.
 #[derive(Drop)]
 pub(crate) struct Asked<'a, R, S: Source<R>> {
     pub part: Part,
@@ -24,7 +24,7 @@ pub(crate) struct Asked<'a, R, S: Source<R>> {
     pub accepted: &'a Accepted,
 }
 
-/// What it comes to: a job, and the head of the answer.
+/// The job of an accepted request, and the head of its answer.
 #[derive(Drop)]
 pub(crate) struct Planned<'a> {
     pub job: &'a Job,

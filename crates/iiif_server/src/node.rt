@@ -5,7 +5,7 @@ ghost use Rattle.iiif_answers.specs.Outcomes.{IsReady};
 ghost use Rattle.iiif_answers.specs.Responses.{is_loaded};
 ghost use Rattle.iiif_answers.specs.declared.part.Part.TheVariants.{Body};
 ghost use Rattle.iiif_delivery.specs.Delivery.{MaySend, Sends};
-ghost use Rattle.iiif_server.specs.Answering.{FramesCall, FramesPart, SendsForCall, SendsForTarget};
+ghost use Rattle.iiif_server.specs.Answering.{FramesCall, FramesPart, SendsForCall, SendsForTarget, SendsWhole};
 ghost use Rattle.iiif_server.specs.Answering.{SparesForCall, SparesForTarget, SparesUnlessImage};
 ghost use Rattle.iiif_server.specs.Asking.{IsFound, IsJobOn, PlansHead, PlansJob, SendsFor, WasAccepted, WasFound};
 ghost use Rattle.iiif_server.specs.Code.{HasImages};
@@ -18,6 +18,7 @@ use crate::stock::Stock;
 use iiif_answers::accepted::Accepted;
 use iiif_answers::calls::{is_answered, part_of};
 use iiif_answers::images::{head_message, image_head, job_of, picture_is_shown};
+use iiif_answers::laws::whole_over_honest_devices;
 use iiif_answers::message::{message_of, refusal_message};
 use iiif_answers::outcome::{Outcome, outcome_of};
 use iiif_answers::sending::{send_fault, send_message};
@@ -43,15 +44,16 @@ use std::sync::ledger::{Blank, Ledger};
 use std::thread::Threads;
 use std::time::Clock;
 
-/// How many jobs of so many workers each make their blocks at a time: as many as each has workers, and so many that four work in all.
+/// Returns how many jobs of so many workers each make their blocks at a time: as many as each has workers, and so many that four work in
+/// all.
 fn jobs_at_a_time(workers: u32) -> u32
     ensures { (0 < result) × (workers ≤ result) }
 {
     workers.max(4 / workers.max(1))
 }
 
-/// Who may make blocks now, among so many nodes. Of several nodes all light jobs may: there a job mostly waits for replies, and who waits
-/// for a slow node is not to hold the others.
+/// Makes the queue that admits jobs to making blocks, among so many nodes. Of several nodes it admits all light jobs: there a job mostly
+/// waits for replies, and one that waits for a slow node is not to hold the others.
 fn job_queue(alloc: Global, workers: u32, nodes: usize) -> JobQueue {
     let most = jobs_at_a_time(workers);
     let light = if nodes > 1 { u32::MAX } else { most };
@@ -93,7 +95,7 @@ where
 {
     config: Config,
     groups: Groups<R, S, J, N, T>,
-    /// Who may make blocks now.
+    /// Admits jobs to making blocks.
     queue: JobQueue,
     /// How much was kept beside one answer.
     kept: Peak,
@@ -117,7 +119,7 @@ where
 impl<R, S: Source<R> + Drop, J: System, N, T> Node<R, S, J, N, T> {
     ghost use Rattle.iiif_server.specs.Stocks.{IsStock};
 
-    /// A node of these images, where J says what their names stand for. The only error is lack of memory.
+    /// Makes a node of these images, where J says what their names stand for. The only error is lack of memory.
     pub fn new(
         alloc: Global,
         config: Config,
@@ -154,14 +156,14 @@ impl<R, S: Source<R> + Drop, J: System, N, T> Node<R, S, J, N, T> {
         Handle::new(&self.groups)
     }
 
-    /// Its images.
+    /// Returns its images.
     pub(crate) fn images(&self) -> &Catalogue<R, S>
         ensures { HasImages J.System S.Source self.now result.now }
     {
         self.groups.tiles().images().catalogue()
     }
 
-    /// What an accepted request of one of its images comes to, planned.
+    /// Plans the job of an accepted request of one of its images.
     fn job(
         &self,
         alloc: Global,
@@ -181,7 +183,7 @@ impl<R, S: Source<R> + Drop, J: System, N, T> Node<R, S, J, N, T> {
 impl<R, S: Source<R> + Drop, J: System> Node<R, S, J, NoLink, NoGate> {
     ghost use Rattle.iiif_server.specs.Stocks.{IsBlankOf};
 
-    /// A node that asks no other, whose groups have this room each. The only error is lack of memory.
+    /// Makes a node that asks no other, whose groups have this room each. The only error is lack of memory.
     pub fn alone(
         alloc: Global,
         config: Config,
@@ -202,7 +204,7 @@ impl<R, S: Source<R> + Drop, J: System> Node<R, S, J, NoLink, NoGate> {
 }
 
 impl<R: Wait, S: Source<R> + Drop, J: System, N, T> Node<R, S, J, N, T> {
-    /// The passes of a worker: one of each group. None where one of them is missing.
+    /// Takes the passes of a worker: one of each group. None where one of them is missing.
     pub fn pass(&self, rt: &R) -> Option<Passes<J>> {
         let tiles = self.groups.tiles().group();
         let tile = tiles.pass(rt)?;
@@ -381,7 +383,7 @@ impl<
     }
 
     /// Sends the body of the answer to a GET of a target. Where it is no image, the passes stay as they are.
-    pub fn send_body<W: Outlet>(
+    pub fn body_one<W: Outlet>(
         &self,
         rt: &R,
         alloc: Global,
@@ -399,7 +401,7 @@ impl<
     }
 
     /// Answers a call: to GET with head and body, to HEAD with the same head alone. Where no image is loaded, as for HEAD, the passes
-    /// stay as they are.
+    /// stay as they are. An image that is asked for is sent whole where no read of it failed and the writer didn't, but for lack of memory.
     pub fn serve_one<W: Outlet>(
         &self,
         rt: &R,
@@ -412,7 +414,10 @@ impl<
         ensures allowed { SendsForCall S.Source J.honest self.now call.now W.contents W.fails out.old out.new result }
         ensures framed { FramesCall self.now call.now W.contents out.old out.new result }
         ensures unasked { SparesForCall S.Source J.honest self.now call.now passes.old passes.new }
+        ensures whole { SendsWhole S.Source J.honest self.now call.now W.contents W.fails out.old out.new result }
     {
+        // A law of answers.
+        whole_over_honest_devices::<R, S, J, W>();
         let part = part_of(call);
         if is_answered(call) {
             let host = Host { rt, alloc };

@@ -9,14 +9,14 @@ pub(crate) struct Peak {
 }
 
 impl Peak {
-    /// None was told.
+    /// Makes the peak of no number.
     pub(crate) fn new() -> Peak {
         Peak {
             most: Mutex::new(0),
         }
     }
 
-    /// A number is told.
+    /// Takes in a number.
     pub(crate) fn raise<R: Wait>(&self, rt: &R, number: u64) {
         let mut most = self.most.lock(rt);
         *most = (*most).max(number);

@@ -15,7 +15,7 @@ pub struct Room {
 }
 
 impl Room {
-    /// The same room, for another cache.
+    /// Returns an equal room, for another cache.
     pub fn again(&self) -> Room
         ensures { result ≡ self.now }
     {

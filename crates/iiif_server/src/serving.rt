@@ -1,14 +1,14 @@
-//! What connections are served with.
+//! Runtime, allocator and watch of a connection.
 
 use std::alloc::Global;
 
-/// What a connection is served with.
+/// Runtime, allocator and watch of a connection.
 #[derive(Drop)]
 pub struct Serving<'a, 'w, R, V> {
     /// The runtime.
     pub rt: &'a R,
-    /// What memory is taken of.
+    /// The allocator.
     pub alloc: Global,
-    /// Who is told of each answer.
+    /// Told of each answer.
     pub watch: &'w V,
 }

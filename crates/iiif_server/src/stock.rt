@@ -1,4 +1,4 @@
-//! What the groups of a node are made with.
+//! Settings of a node's groups.
 
 ghost use Rattle.std.specs.Prelude.{◌≡◌, IfOk, length};
 ghost use Rattle.iiif_server.specs.Stocks.{HasStock, HasStocks, IsStock};
@@ -14,12 +14,12 @@ use std::sync::ledger::{Blank, Ledger};
 /// The name of a node that has no others beside it.
 const OWN_NAME: &str = "self";
 
-/// What a group of a node is made with: its room, its way to other nodes, and the ledger of its calls.
+/// Settings of a group of a node: its room, its way to other nodes, and the ledger of its calls.
 #[derive(Drop)]
 pub struct Stock<N, T> {
     /// The room of its cache.
     pub room: Room,
-    /// What each load passes.
+    /// The gate that each load passes.
     pub gate: T,
     /// The ring of the nodes, at which place of it this one stands, if at any, and a link for each place.
     pub ring: Ring,
@@ -30,7 +30,7 @@ pub struct Stock<N, T> {
 }
 
 impl<N: Drop, T: Drop> Stock<N, T> {
-    /// The group that is made of it. The only error is lack of memory.
+    /// Makes the group. The only error is lack of memory.
     pub(crate) fn group<K: CacheKey, J: System, L: Ledger>(
         self,
         alloc: Global,
@@ -47,7 +47,7 @@ impl<N: Drop, T: Drop> Stock<N, T> {
     }
 }
 
-/// The ring of a node that has no others beside it.
+/// Makes the ring of a node that has no others beside it.
 fn own_ring(alloc: Global) -> Result<Ring, NoMemory>
     ensures { IfOk result (λ ring. length ring ≡ 1) }
 {
@@ -60,7 +60,7 @@ fn own_ring(alloc: Global) -> Result<Ring, NoMemory>
 }
 
 impl Stock<NoLink, NoGate> {
-    /// That of a node which has no others beside it, with this room. The only error is lack of memory.
+    /// Makes the settings for a node that has no others beside it, with this room. The only error is lack of memory.
     pub fn alone(alloc: Global, room: Room, blank: Blank) -> Result<Self, NoMemory>
         ensures stock { HasStock blank (λ stock. stock) result }
         ensures room { IfOk result (λ stock. stock.room ≡ room) }
@@ -78,7 +78,7 @@ impl Stock<NoLink, NoGate> {
         })
     }
 
-    /// Two such stocks, with this room each.
+    /// Makes two of them, with this room each.
     pub(crate) fn both_alone(
         alloc: Global,
         room: Room,

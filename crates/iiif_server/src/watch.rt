@@ -1,21 +1,21 @@
-//! Who is told of each answer of a connection.
+//! Watches of a connection's answers.
 
 use iiif_answers::{Cut, Sent};
 use iiif_http_front::Call;
 
-/// Who is told of each answer, as for a log and for counters. R is the runtime.
+/// Listener for each answer, as for a log and for counters. R is the runtime.
 pub trait Watch<R> {
-    /// What is kept while an answer is made, as the time at which it began.
+    /// State that is kept while an answer is made, as the time at which it began.
     type Begun: Drop;
 
-    /// An answer begins: a head was read, or what came is none.
+    /// Takes in that an answer begins: a head was read, or the bytes that came are none.
     fn begin(&self, rt: &R) -> Self::Begun;
 
-    /// That answer ended so. There is no call where what came is no head, or where memory ran out to read it.
+    /// Takes in how that answer ended. There is no call where the bytes that came are no head, or where memory ran out to read it.
     fn report(&self, rt: &R, begun: Self::Begun, call: Option<&Call>, outcome: &Result<Sent, Cut>);
 }
 
-/// Nobody.
+/// Watches nothing.
 impl<R> Watch<R> for () {
     type Begun = ();
 

@@ -1,3 +1,4 @@
 mod FlipLemmas
 mod StableLemmas
 mod ShownLemmas
+mod ServedLemmas

@@ -11,6 +11,7 @@ pub use flipping::Flipping;
 pub use near::NearLink;
 pub use other::OtherLink;
 pub use pair::{Answer, PairFault, ask_sums, ask_tile};
+pub use served::{ServedByTwo, SharedImage, serve_one_by_two};
 
 pub mod by_two;
 pub mod checked;
@@ -20,3 +21,4 @@ pub mod near;
 mod nodes;
 pub mod other;
 pub mod pair;
+pub mod served;

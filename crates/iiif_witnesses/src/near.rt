@@ -11,7 +11,7 @@ use iiif_keys::{CacheKey, Shape, SumKey, SumVal, System, TileKey, TileVal};
 use iiif_peer_wire::WireFault;
 use iiif_singleflight::Receipt;
 use iiif_source::Source;
-use iiif_sum_group::{Groups, Passes, SumCalls, TileCalls, take_outcome};
+use iiif_sum_group::{Handle, Passes, SumCalls, TileCalls, take_outcome};
 use std::alloc::Global;
 use std::sync::Wait;
 use std::sync::ledger::Ledger;
@@ -27,7 +27,7 @@ where
     TileCalls<J>: Ledger,
     SumCalls<J>: Ledger,
 {
-    pub node: &'a Groups<R, S, J, N, T>,
+    pub node: Handle<'a, R, S, J, N, T>,
     pub alloc: Global,
 }
 
@@ -64,11 +64,11 @@ impl<'a, R: Wait, S: Source<R> + Drop, J: System, N, T: Gate<R>> Link<TileKey, J
     for NearLink<'a, R, S, J, N, T> {
     fn ask(&self, rt: &R, key: &TileKey, shape: &Shape) -> Result<TileVal, LinkFault> {
         let tiles = self.node.tiles();
-        let Some(mut pass) = tiles.group().pass(rt) else {
+        let Some(mut pass) = tiles.pass(rt) else {
             return Err(NO_MEMORY);
         };
-        let tile = tiles.get_local(rt, &mut pass, key);
-        tiles.group().give_back(rt, pass);
+        let tile = self.node.local().get_tile_local(rt, &mut pass, key);
+        tiles.give_back(rt, pass);
         match tile {
             Ok(tile) => copy_value(self.alloc, key, shape, tile),
             Err(fault) => Err(LinkFault::Refused(fault.number())),
@@ -85,7 +85,7 @@ impl<
     T: Gate<R>,
 > Link<SumKey, J, R> for NearLink<'a, R, S, J, N, T> {
     fn ask(&self, rt: &R, key: &SumKey, shape: &Shape) -> Result<SumVal, LinkFault> {
-        let (tiles, sums) = (self.node.tiles().group(), self.node.sums());
+        let (tiles, sums) = (self.node.tiles(), self.node.sums());
         let Some(tile) = tiles.pass(rt) else {
             return Err(NO_MEMORY);
         };
@@ -94,7 +94,7 @@ impl<
             return Err(NO_MEMORY);
         };
         let mut passes = Passes { tile, sum };
-        let block = self.node.get_local(rt, &mut passes, key);
+        let block = self.node.local().get_local(rt, &mut passes, key);
         let Passes { tile, sum } = passes;
         tiles.give_back(rt, tile);
         sums.give_back(rt, sum);

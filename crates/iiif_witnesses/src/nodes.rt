@@ -1,6 +1,6 @@
 //! How a node over an image in memory is made, as one of two.
 
-ghost use Rattle.std.specs.Prelude.{◌≡◌, ◌<◌, IfOk, length, vec_len};
+ghost use Rattle.std.specs.Prelude.{◌≡◌, ℕ, ◌<◌, List, IfOk, IsTrue, length, vec_len};
 ghost use Rattle.iiif_keys.specs.Ledgers.{all_parts};
 ghost use Rattle.iiif_witnesses.specs.Code.{images_of, IsLocal};
 
@@ -11,7 +11,7 @@ use iiif_keys::{CacheKey, Fault, Name, System};
 use iiif_pixel::NoMemory;
 use iiif_ring::Ring;
 use iiif_source::MemSource;
-use iiif_sum_group::{Groups, Tiles};
+use iiif_sum_group::{Groups, Handle, Tiles};
 use iiif_tiff_read::open;
 use iiif_tile_group::{Catalogue, Images};
 use std::alloc::{AllocError, Global};
@@ -19,9 +19,9 @@ use std::num::NonZeroUsize;
 use std::sync::ledger::{Blank, Ledger};
 
 /// The most bytes and entries that a group keeps.
-const BYTES: u64 = 1_000_000;
+pub(crate) const BYTES: u64 = 1_000_000;
 
-const ENTRIES: usize = 100;
+pub(crate) const ENTRIES: usize = 100;
 
 /// The names of the nodes.
 const FIRST: &str = "left";
@@ -33,6 +33,9 @@ pub(crate) type Node<R, J, N> = Groups<R, MemSource, J, N, NoGate>;
 
 /// A link to a node over memory that asks no other.
 pub(crate) type Other<'a, R, I, J> = OtherLink<'a, R, MemSource, I, J, NoLink, NoGate>;
+
+/// A handle to a node over memory that asks no other.
+pub(crate) type ToNode<'a, R, I> = Handle<'a, R, MemSource, I, NoLink, NoGate>;
 
 /// Holds a file in memory, as the only image, under a name.
 pub(crate) fn hold<R>(
@@ -62,7 +65,7 @@ pub(crate) fn hold<R>(
 }
 
 /// The ring of both nodes.
-fn ring(alloc: Global) -> Result<Ring, NoMemory>
+pub(crate) fn ring(alloc: Global) -> Result<Ring, NoMemory>
     ensures { IfOk result (λ ring. length ring ≡ 2) }
 {
     let mut names = Vec::new(alloc);
@@ -127,5 +130,21 @@ pub(crate) fn no_links(alloc: Global) -> Result<Vec<NoLink>, NoMemory>
     let mut links = Vec::new(alloc);
     links.push(NoLink)?;
     links.push(NoLink)?;
+    Ok(links)
+}
+
+/// Links to a node of the system I, for both places of the ring.
+pub(crate) fn links_to<'a, R, I: System, J: System>(
+    alloc: Global,
+    node: (ToNode<'a, R, I>, ToNode<'a, R, I>),
+) -> Result<Vec<Other<'a, R, I, J>>, NoMemory>
+    requires same { I.pictures ≡ J.pictures }
+    requires stable { (name : List ℕ) → J.stable name → ∥ I.stable name ∥₁ }
+    requires honest { IsTrue J.honest → IsTrue I.honest }
+    ensures { IfOk result (λ v. vec_len v ≡ 2) }
+{
+    let mut links = Vec::new(alloc);
+    links.push(OtherLink::new(node.0, alloc))?;
+    links.push(OtherLink::new(node.1, alloc))?;
     Ok(links)
 }

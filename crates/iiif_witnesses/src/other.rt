@@ -6,7 +6,7 @@ use crate::near::NearLink;
 use iiif_group::{Gate, Link, LinkFault};
 use iiif_keys::{Shape, SumKey, SumVal, System, TileKey, TileVal};
 use iiif_source::Source;
-use iiif_sum_group::{Groups, SumCalls, TileCalls};
+use iiif_sum_group::{Handle, SumCalls, TileCalls};
 use std::alloc::Global;
 use std::marker::PhantomData;
 use std::sync::Wait;
@@ -33,7 +33,7 @@ where
     SumCalls<I>: Ledger,
 {
     /// Makes a link to this node, where the systems are alike.
-    pub fn new(node: &'a Groups<R, S, I, N, T>, alloc: Global) -> Self
+    pub fn new(node: Handle<'a, R, S, I, N, T>, alloc: Global) -> Self
         requires same { I.pictures ≡ J.pictures }
         requires stable { (name : List ℕ) → J.stable name → ∥ I.stable name ∥₁ }
         requires honest { IsTrue J.honest → IsTrue I.honest }

@@ -9,13 +9,13 @@ ghost use Rattle.iiif_witnesses.specs.Code.{images_of, IsLocal};
 ghost use Rattle.iiif_witnesses.specs.Values.{AreSumsOf, IsTileOf};
 
 use crate::by_two::{get_sums_by_two, get_tile_by_two};
-use crate::nodes::{Node, Other, hold, make_node, no_links};
+use crate::nodes::{Node, Other, hold, links_to, make_node, no_links};
 use crate::other::OtherLink;
 use iiif_group::{Gate, Link, NoLink};
 use iiif_keys::{Fault, Name, PARTS, SumKey, SumVal, System, TileKey, TileVal};
 use iiif_pixel::NoMemory;
 use iiif_source::{MemSource, Source};
-use iiif_sum_group::{Groups, Passes, take_outcome};
+use iiif_sum_group::{Groups, Handle, Passes, take_outcome};
 use iiif_tables::Book;
 use iiif_tiff_read::OpenFault;
 use iiif_tile_group::Catalogue;
@@ -48,19 +48,19 @@ pub struct Answer<V: Drop> {
 
 /// The images of two nodes, which are the same, and which of the two stands first in the ring.
 #[derive(Drop)]
-struct Pair<R> {
-    asked: Catalogue<R, MemSource>,
-    other: Catalogue<R, MemSource>,
-    edge: u32,
-    is_first: bool,
+pub(crate) struct Pair<R> {
+    pub asked: Catalogue<R, MemSource>,
+    pub other: Catalogue<R, MemSource>,
+    pub edge: u32,
+    pub is_first: bool,
     pub ghost same: { other ≡ asked },
 }
 
 /// Ledgers of tiles and of sums.
-type Blanks = (Blank, Blank);
+pub(crate) type Blanks = (Blank, Blank);
 
 /// Ledgers that no other has.
-fn blanks() -> Blanks
+pub(crate) fn blanks() -> Blanks
     ensures { (result.0.parts ≡ all_parts) × (result.1.parts ≡ all_parts) }
 {
     (Blank::new(PARTS), Blank::new(PARTS))
@@ -68,7 +68,7 @@ fn blanks() -> Blanks
 
 impl<R> Pair<R> {
     /// Holds a file twice, once for each node.
-    fn new(
+    pub(crate) fn new(
         rt: &R,
         alloc: Global,
         file: &[u8],
@@ -89,27 +89,11 @@ impl<R> Pair<R> {
     }
 
     /// The places in the ring of the node that is asked and of the other.
-    fn places(&self) -> (usize, usize)
+    pub(crate) fn places(&self) -> (usize, usize)
         ensures { (result.0 < 2) × (result.1 < 2) }
     {
         if self.is_first { (0, 1) } else { (1, 0) }
     }
-}
-
-/// Links to the other node, for both places of the ring.
-fn links_to<'a, R, I: System, J: System>(
-    alloc: Global,
-    node: &'a Node<R, I, NoLink>,
-) -> Result<Vec<Other<'a, R, I, J>>, NoMemory>
-    requires same { I.pictures ≡ J.pictures }
-    requires stable { (name : List ℕ) → J.stable name → ∥ I.stable name ∥₁ }
-    requires honest { IsTrue J.honest → IsTrue I.honest }
-    ensures { IfOk result (λ v. vec_len v ≡ 2) }
-{
-    let mut links = Vec::new(alloc);
-    links.push(OtherLink::new(node, alloc))?;
-    links.push(OtherLink::new(node, alloc))?;
-    Ok(links)
 }
 
 /// Makes a node of the system I, which has a link to no node.
@@ -142,7 +126,10 @@ fn make_asked<'a, R, I: System, J: System>(
     requires stable { (name : List ℕ) → J.stable name → ∥ I.stable name ∥₁ }
     requires honest { IsTrue J.honest → IsTrue I.honest }
 {
-    let links = (links_to(alloc, other)?, links_to(alloc, other)?);
+    let links = (
+        links_to(alloc, (Handle::new(other), Handle::new(other)))?,
+        links_to(alloc, (Handle::new(other), Handle::new(other)))?,
+    );
     make_node(alloc, catalogue, edge, place, links, blanks)
 }
 
@@ -285,8 +272,8 @@ pub fn ask_tile<R: Wait>(
     }
 }
 
-/// The same of the sums over a block: they are those of its part of the picture that the file shows, whichever nodes load them and their
-/// parts.
+/// Makes two such nodes, and asks one of them for the sums over a block: they are those of its part of the picture that the file shows,
+/// whichever nodes load them and their parts.
 pub fn ask_sums<R: Wait>(
     rt: &R,
     alloc: Global,

@@ -331,7 +331,7 @@ fn half_of_the_sample_books_five_sums_and_four_tiles(rt: HostRuntime) {
     all_are(&rt, &BOOKED);
 }
 
-/// At one place and an edge of 1 this picture is a block of level 4, the least whose parts are shared out: 341 blocks in all. The first
+/// At one place and an edge of 1 this picture is a block of level 4, whose parts are shared out, and theirs: 341 blocks in all. The first
 /// load of a tile is held for so many turns.
 const HELD: Setup<'static> = Setup {
     file: &BROAD,

@@ -29,7 +29,7 @@ fn body_of<R: Threads + Wait + Clock + Sync, J: System + Send + Sync>(
     if passes.is_empty() {
         return None;
     }
-    Some(node.send_body(rt, alloc, passes, target, out))
+    Some(node.body_one(rt, alloc, passes, target, out))
 }
 
 fn method_of(alloc: Global, verb: Verb) -> Option<Method> {

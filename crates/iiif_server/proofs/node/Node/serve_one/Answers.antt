@@ -30,10 +30,17 @@ returns-then-is_answered g c =
           ∙ none q (of_target (given q) answered
           (subst (λ (t : List ℕ). Replies g.S.Source.bytes g.S.Source.keeps g.J.System.honest c.args.self.now.settings c.args.self.now.items
           t (given q)) c.deref.ensures.value reached)));
+      whole = λ never no_writer q reached. (
+        allowed.0,
+        allowed.1,
+        (c.whole_over_honest_devices.ensures c.answer.new.out c.args.self.now.settings c.args.self.now.items
+            c.args.call.now.target.items).1 (method_text c.args.call.now.method) asked q allowed.0 c.answer.result never no_writer reached
+            allowed.2,
+      );
     }
 
-pub returns-else-is_answered : goal.returns-else-is_answered
-returns-else-is_answered g c =
+pub returns-else-is_answered-clause-allowed : goal.returns-else-is_answered-clause-allowed
+returns-else-is_answered-clause-allowed g c =
     let asked = part_of (method_text c.args.call.now.method) c.args.call.now.close in
     let reaches = RepliesToCall g.S.Source.bytes g.S.Source.keeps g.J.System.honest c.args.self.now.settings c.args.self.now.items
     (method_text c.args.call.now.method) c.args.call.now.target.items in
@@ -42,15 +49,25 @@ returns-else-is_answered g c =
     c.refusal_message-message.result c.send_message.result _
     (own (refused Method) (no_method (sym c.is_answered.ensures ∙ c.if-is_answered.false)), refl) c.refusal_message-message.ensures
     c.send_message.ensures.made c.send_message.ensures.memory in
-    let allowed = other_part c.args.self.now.settings c.part_of-part.result asked g.S.Source.gave reaches
+    other_part c.args.self.now.settings c.part_of-part.result asked g.S.Source.gave reaches
     ((b : g.row.W.Denot) × g.W.Outlet.fails b c.send_message.new.out)
-    (g.W.Write.contents c.args.out.now) (g.W.Write.contents c.send_message.new.out) c.send_message.result c.part_of-part.ensures told in
-    record {
-      allowed = allowed;
-      framed = answer_to_call_framed g.S.Source.bytes g.S.Source.keeps g.J.System.honest c.args.self.now.settings c.args.self.now.items
-          asked g.S.Source.gave (method_text c.args.call.now.method)
-          c.args.call.now.target.items ((b : g.row.W.Denot) × g.W.Outlet.fails b c.send_message.new.out) (g.W.Write.contents c.args.out.now)
-          (g.W.Write.contents c.send_message.new.out)
-          c.send_message.result allowed;
-      unasked = λ none. refl;
-    }
+    (g.W.Write.contents c.args.out.now) (g.W.Write.contents c.send_message.new.out) c.send_message.result c.part_of-part.ensures told
+
+pub returns-else-is_answered-clause-framed : goal.returns-else-is_answered-clause-framed
+returns-else-is_answered-clause-framed g c =
+    answer_to_call_framed g.S.Source.bytes g.S.Source.keeps g.J.System.honest c.args.self.now.settings c.args.self.now.items
+    (part_of (method_text c.args.call.now.method) c.args.call.now.close) g.S.Source.gave (method_text c.args.call.now.method)
+    c.args.call.now.target.items ((b : g.row.W.Denot) × g.W.Outlet.fails b c.send_message.new.out) (g.W.Write.contents c.args.out.now)
+    (g.W.Write.contents c.send_message.new.out)
+    c.send_message.result (returns-else-is_answered-clause-allowed g c)
+
+pub returns-else-is_answered-clause-whole : goal.returns-else-is_answered-clause-whole
+returns-else-is_answered-clause-whole g c never no_writer q reached =
+    let asked = part_of (method_text c.args.call.now.method) c.args.call.now.close in
+    let allowed = returns-else-is_answered-clause-allowed g c in (
+      allowed.0,
+      allowed.1,
+      (c.whole_over_honest_devices.ensures c.send_message.new.out c.args.self.now.settings c.args.self.now.items
+          c.args.call.now.target.items).1 (method_text c.args.call.now.method) asked q allowed.0 c.send_message.result never
+          no_writer reached allowed.2,
+    )

@@ -10,8 +10,8 @@ pub ask-requires-clause-known : goal.ask-requires-clause-known
 ask-requires-clause-known g c =
     subst (λ (p : Pictures). HasPicture p c.args.key.now.name c.args.shape.now) (sym c.args.self.now.same) c.requires.known
 
-pub returns : goal.returns
-returns g c stable honest =
+pub returns-clause-meant : goal.returns-clause-meant
+returns-clause-meant g c stable honest =
     subst (λ (p : Pictures). IfOk c.ask.result (λ v. v ≡ tile_meaning p c.args.key.now)) c.args.self.now.same
     (tile_where_stable (g.I.System.stable c.args.key.now.name) c.ask.result (tile_meaning g.I.System.pictures c.args.key.now)
-    (c.args.self.now.stable c.args.key.now.name stable) (λ here. c.ask.ensures here (c.args.self.now.honest honest)))
+    (c.args.self.now.stable c.args.key.now.name stable) (λ here. c.ask.ensures.meant here (c.args.self.now.honest honest)))

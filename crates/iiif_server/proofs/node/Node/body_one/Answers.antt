@@ -1,6 +1,6 @@
 use Rattle.iiif_answers.specs.declared.part.Part.TheVariants.{Body}
 use Rattle.iiif_answers.proofs.AllowedLemmas.{body_framed}
-use Rattle.iiif_server.proofs.node.Node.send_body.Goals as goal
+use Rattle.iiif_server.proofs.node.Node.body_one.Goals as goal
 
 pub returns-clause-framed : goal.returns-clause-framed
 returns-clause-framed g c =
