@@ -507,17 +507,48 @@ class World:
             return None
         return self.flights[flight]
 
+    def note(self, node, step, kind, ticket, key):
+        """The line that a node writes of a step, behind the line of its event."""
+        words = [step, {WIDE: "wide", LOCAL: "local"}[kind]] + ([] if ticket is None else [str(ticket)])
+        return "\n> %d %s %s" % (node, " ".join(words), key_bytes(key).hex())
+
+    def led(self, step, flight):
+        node, key, kind, ticket, _ = self.flights[flight]
+        return self.note(node, step, kind, ticket, key)
+
     def said(self, event, flights):
-        """What is said of an event that was done, where there were so many flights before: what a call met, and whether a landing kept."""
+        """What is said of an event that was done, where there were so many flights before: what a call met, whether a landing kept; and
+        the step that a node writes of it."""
         if event[0] == "enter":
-            node, key, _, _, state = self.calls[event[1]]
+            node, key, kind, _, state = self.calls[event[1]]
             if state[0] == "hit":
-                return ": hit %d" % self.nodes[node].table(key).kept(key)[2]
-            return ": %s %d %d" % ("joins" if state[1] < flights else "leads", self.flights[state[1]][3], state[1])
+                ticket = self.nodes[node].table(key).kept(key)[2]
+                return ": hit %d" % ticket + self.note(node, "hit", kind, ticket, key)
+            word, ticket = "joins" if state[1] < flights else "leads", self.flights[state[1]][3]
+            return ": %s %d %d" % (word, ticket, state[1]) + self.note(node, word, kind, ticket, key)
+        if event[0] in ("ask_peer", "lose"):
+            return self.led({"ask_peer": "asks", "lose": "failed"}[event[0]], event[1])
+        if event[0] == "take":
+            return self.led("answered" if self.flights[event[1]][4][0] == "ready" else "failed", event[1])
+        if event[0] == "serve":
+            node, key, _, _ = self.asks[event[1]]
+            return self.note(node, "serves", LOCAL, None, key)
+        if event[0] == "reply":
+            node, key, _, _, _ = self.calls[event[1]]
+            return self.note(node, "replies " + {"ok": "value", "fault": "fault"}[self.replies[-1][1][0]], LOCAL, None, key)
+        if event[0] == "load":
+            node, key, _, _, _ = self.flights[event[1]]
+            return self.note(node, "reads", LOCAL, None, key) if key[0] == "tile" else ""
+        if event[0] == "source_fault":
+            node, key, _, _, _ = self.flights[event[1]]
+            return self.note(node, "fails %d %d" % event[2:], LOCAL, None, key)
         if event[0] == "land":
-            node, key, _, ticket, _ = self.flights[event[1]]
+            node, key, _, ticket, stage = self.flights[event[1]]
             entry = self.nodes[node].table(key).kept(key)
-            return ": kept" if entry and entry[2] == ticket else ": dropped"
+            kept = "kept" if entry and entry[2] == ticket else "dropped"
+            return ": " + kept + self.led("lands %s %s" % ({"ok": "value", "fault": "fault"}[stage[1][0]], kept), event[1])
+        if event[0] == "stop":
+            return "\n> %d stopped" % event[1]
         return ""
 
     def told(self, event):

@@ -1,6 +1,7 @@
 """What a text of lists comes to, by the evaluation of the definitions in Python: writes what `iiif_replay` has to write for it.
 
     /usr/bin/python3 tests/machine/text.py --go-on < crates/iiif_replay/stdin
+    tests/machine/text.py --records LIST NODE RECORD..      # compares records, too, as iiif_replay does
 
 The words of each line are those of docs/theorem/MACHINE.md, Replaying a list. A line that is no setting and no event ends it with status 2; and an
 event that isn't allowed with status 3, where it isn't told to go on.
@@ -124,12 +125,38 @@ class Text:
                 raise NotNow
 
 
+def steps_of(path):
+    """The steps of a record, and that its node was stopped; none, where it has no step."""
+    with open(path, "rb") as file:
+        lines = file.read().split(b"\n")[:-1]
+    steps = [line.partition(b" ")[2] for line in lines if line[:1].isdigit()]
+    return steps + [b"stopped"] if steps else []
+
+
+def compared(wrote, words):
+    """The first node whose records are none of what was written, with the reason."""
+    runs = {}
+    for node, path in zip(words[::2], words[1::2]):
+        runs.setdefault(node, []).append(steps_of(path))
+    for node, records in runs.items():
+        mark = "> %s " % node
+        machine = [line[len(mark):].encode() for text in wrote for line in text.split("\n") if line.startswith(mark)]
+        if [] in records:
+            return "node %s: no step is recorded" % node
+        if machine != sum(records, []):
+            return "node %s: it has other steps than its record" % node
+    return None
+
+
 def main():
     text = Text("--go-on" in sys.argv)
-    for number, line in enumerate(sys.stdin, 1):
+    records = sys.argv[3:] if sys.argv[1:2] == ["--records"] else []
+    all_wrote = []
+    for number, line in enumerate(open(sys.argv[2], encoding="utf-8") if records else sys.stdin, 1):
         try:
             for wrote in text.line(number, line):
                 print(wrote)
+                all_wrote.append(wrote)
         except (ValueError, KeyError, IndexError, TypeError):
             print("line %d" % number, file=sys.stderr)
             return 2
@@ -138,6 +165,10 @@ def main():
             return 3
     for wrote in text.ended():
         print(wrote)
+    why = compared(all_wrote, records)
+    if why:
+        print(why, file=sys.stderr)
+        return 4
     return 0
 
 

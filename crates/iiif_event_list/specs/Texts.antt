@@ -1,12 +1,16 @@
 -- What is written of events and of answers.
-use Rattle.std.specs.Prelude.{ℕ, suc, List, [], ◌∷◌, ◌++◌, ◌==◌, nat_lt, codes, decimal, Option, Some, None, if◌then◌else◌}
-use Rattle.std.specs.Prelude.{option_map, slice_get}
+use Rattle.std.specs.Prelude.{ℕ, suc, ◌-◌, Bool, List, [], ◌∷◌, ◌++◌, ◌==◌, nat_lt, codes, decimal, Option, Some, None, if◌then◌else◌}
+use Rattle.std.specs.Prelude.{length, option_map, slice_get, Result, Ok, Err}
 use Rattle.std.specs.List.{flat_map}
 use Rattle.std.specs.Str.{trim}
 use Rattle.iiif_tables.specs.Cache.{Kept, kept_for}
-use Rattle.iiif_machine.specs.Keys.{key_eq}
+use Rattle.iiif_records.specs.Lines.{step_line, ticket_words}
+use Rattle.iiif_tables.specs.declared.table.Class.{Class}
+use Rattle.iiif_tables.specs.declared.table.Class.TheVariants.{Local}
+use Rattle.iiif_machine.specs.Keys.{key_bytes, key_eq}
 use Rattle.iiif_machine.specs.Types.{Picture, Refusal, ReadFault}
 use Rattle.iiif_machine.specs.declared.keys.Key.{Key}
+use Rattle.iiif_machine.specs.declared.keys.Key.TheVariants as key
 use Rattle.iiif_machine.specs.declared.keys.Value.{Value}
 use Rattle.iiif_machine.specs.Rows.{Node}
 use Rattle.iiif_machine.specs.declared.rows.Caller.{Caller}
@@ -14,6 +18,10 @@ use Rattle.iiif_machine.specs.declared.rows.Call.{Call}
 use Rattle.iiif_machine.specs.declared.rows.CallState.{CallState}
 use Rattle.iiif_machine.specs.declared.rows.CallState.TheVariants.{Fresh, Hit, In, Gone}
 use Rattle.iiif_machine.specs.declared.rows.Flight.{Flight}
+use Rattle.iiif_machine.specs.declared.rows.Stage.{Stage}
+use Rattle.iiif_machine.specs.declared.rows.Stage.TheVariants as stage
+use Rattle.iiif_machine.specs.declared.rows.Ask.{Ask}
+use Rattle.iiif_machine.specs.declared.rows.Reply.{Reply as ReplyRow}
 use Rattle.iiif_machine.specs.Worlds.{World, table_at}
 use Rattle.iiif_machine.specs.declared.events.Event.{Event}
 use Rattle.iiif_machine.specs.declared.events.Event.TheVariants.{Want, Enter, Again, AskPeer, Serve, Reply, Take, Lose, GoLocal, Load}
@@ -92,51 +100,118 @@ lines_from n (a ∷ more) = answer_line n a ++ lines_from (suc n) more
 abbrev pub answers_text : List (Option Answer) → List ℕ
 answers_text all = lines_from 0 all
 
+-- the line of a step that a node of this number writes, behind the line of its event
+abbrev pub note_text : ℕ → List ℕ → Class → Option ℕ → Key → List ℕ
+note_text node step class ticket key = codes "\n> " ++ decimal node ++ codes " " ++ step_line step class ticket (key_bytes key)
+
+abbrev pub flight_ticket : World → ℕ → Option ℕ
+flight_ticket v f = option_map (λ (fl : Flight). fl.lead.ticket) (slice_get v.flights f)
+
+abbrev pub meeting_word : Bool → List ℕ
+meeting_word joins = if joins then codes "joins" else codes "leads"
+
 -- what a call that entered met, where the list has as many flights from before: what is kept, by the ticket of the flight that landed with
 -- it; or a flight, by its ticket and its number, which was open, or which the call leads
-abbrev pub ticket_text : Option ℕ → List ℕ
-ticket_text None = []
-ticket_text (Some n) = spaced n
-
-abbrev pub flight_text : World → ℕ → List ℕ
-flight_text v f = ticket_text (option_map (λ (fl : Flight). fl.lead.ticket) (slice_get v.flights f)) ++ spaced f
-
 abbrev pub met_text : ℕ → World → Caller → CallState → List ℕ
 met_text flights v who Fresh = []
-met_text flights v who (Hit x) = codes ": hit" ++ ticket_text (ticket_kept v who.node who.key)
-met_text flights v who (In f) = (if nat_lt f flights then codes ": joins" else codes ": leads") ++ flight_text v f
+met_text flights v who (Hit x) = codes ": hit" ++ ticket_words (ticket_kept v who.node who.key)
+    ++ note_text who.node (codes "hit") who.class (ticket_kept v who.node who.key) who.key
+met_text flights v who (In f) = codes ": " ++ meeting_word (nat_lt f flights) ++ ticket_words (flight_ticket v f) ++ spaced f
+    ++ note_text who.node (meeting_word (nat_lt f flights)) who.class (flight_ticket v f) who.key
 met_text flights v who Gone = []
 
 abbrev pub entered_text : ℕ → World → Option Call → List ℕ
 entered_text flights v None = []
 entered_text flights v (Some call) = met_text flights v call.caller call.state
 
+-- a step of the leader of a flight
+abbrev pub lead_text : List ℕ → Option Flight → List ℕ
+lead_text step None = []
+lead_text step (Some fl) = note_text fl.lead.node step fl.lead.class (Some fl.lead.ticket) fl.lead.key
+
+-- whether an owner that was asked answered with a value
+abbrev pub taken_word : Stage → List ℕ
+taken_word stage.New = codes "failed"
+taken_word stage.Looked = codes "failed"
+taken_word stage.Asking = codes "failed"
+taken_word (stage.Fallback c) = codes "failed"
+taken_word (stage.Parts cs) = codes "failed"
+taken_word (stage.Ready o place) = codes "answered"
+taken_word (stage.Ended o) = codes "failed"
+
+abbrev pub taken_text : Option Flight → List ℕ
+taken_text None = []
+taken_text (Some fl) = lead_text (taken_word fl.stage) (Some fl)
+
+-- a value, or a fault
+abbrev pub ending_word : Result Value ReadFault → List ℕ
+ending_word (Ok x) = codes "value"
+ending_word (Err f) = codes "fault"
+
+abbrev pub landing_word : Stage → List ℕ
+landing_word stage.New = []
+landing_word stage.Looked = []
+landing_word stage.Asking = []
+landing_word (stage.Fallback c) = []
+landing_word (stage.Parts cs) = []
+landing_word (stage.Ready o place) = []
+landing_word (stage.Ended None) = []
+landing_word (stage.Ended (Some o)) = ending_word o
+
 -- whether the node of a flight that has landed keeps what it landed with: by its ticket
-abbrev pub kept_text : ℕ → Option ℕ → List ℕ
-kept_text ticket None = codes ": dropped"
-kept_text ticket (Some n) = if n == ticket then codes ": kept" else codes ": dropped"
+abbrev pub kept_word : ℕ → Option ℕ → List ℕ
+kept_word ticket None = codes "dropped"
+kept_word ticket (Some n) = if n == ticket then codes "kept" else codes "dropped"
 
 abbrev pub landed_text : World → Option Flight → List ℕ
 landed_text v None = []
-landed_text v (Some fl) = kept_text fl.lead.ticket (ticket_kept v fl.lead.node fl.lead.key)
+landed_text v (Some fl) =
+    let kept = kept_word fl.lead.ticket (ticket_kept v fl.lead.node fl.lead.key) in
+    codes ": " ++ kept ++ lead_text (codes "lands " ++ landing_word fl.stage ++ codes " " ++ kept) (Some fl)
 
--- what is said, behind `done`, of an event that made this world of one with so many flights
+-- the step of a node that serves an ask
+abbrev pub served_text : Option Ask → List ℕ
+served_text None = []
+served_text (Some ask) = note_text ask.node (codes "serves") Local None ask.key
+
+-- the step of a node whose call for an ask knows this, with which it replies
+abbrev pub replied_text : Option Call → Option ReplyRow → List ℕ
+replied_text None reply = []
+replied_text (Some call) None = []
+replied_text (Some call) (Some reply) =
+    note_text call.caller.node (codes "replies " ++ ending_word reply.outcome) Local None call.caller.key
+
+-- the step of a read: a sum is read nowhere
+abbrev pub read_text : ℕ → Key → List ℕ
+read_text node (key.Tile t) = note_text node (codes "reads") Local None (key.Tile t)
+read_text node (key.Sum s) = []
+
+abbrev pub loaded_text : Option Flight → List ℕ
+loaded_text None = []
+loaded_text (Some fl) = read_text fl.lead.node fl.lead.key
+
+-- the step of a read that failed
+abbrev pub failed_text : ReadFault → Option Flight → List ℕ
+failed_text e None = []
+failed_text e (Some fl) = note_text fl.lead.node (codes "fails" ++ spaced e.place ++ spaced e.cause) Local None fl.lead.key
+
+-- what is said, behind `done`, of an event that made this world of one with so many flights, and the step that a node writes of it
 abbrev pub said_text : ℕ → Event → World → List ℕ
 said_text flights (Want i name q) v = []
 said_text flights (Enter c) v = entered_text flights v (slice_get v.calls c)
 said_text flights (Again f) v = []
-said_text flights (AskPeer f) v = []
-said_text flights (Serve a) v = []
-said_text flights (Reply c) v = []
-said_text flights (Take f r) v = []
-said_text flights (Lose f) v = []
+said_text flights (AskPeer f) v = lead_text (codes "asks") (slice_get v.flights f)
+said_text flights (Serve a) v = served_text (slice_get v.asks a)
+said_text flights (Reply c) v = replied_text (slice_get v.calls c) (slice_get v.replies (length v.replies - 1))
+said_text flights (Take f r) v = taken_text (slice_get v.flights f)
+said_text flights (Lose f) v = lead_text (codes "failed") (slice_get v.flights f)
 said_text flights (GoLocal f) v = []
-said_text flights (Load f) v = []
-said_text flights (SourceFault f e) v = []
+said_text flights (Load f) v = loaded_text (slice_get v.flights f)
+said_text flights (SourceFault f e) v = failed_text e (slice_get v.flights f)
 said_text flights (Land f kept) v = landed_text v (slice_get v.flights f)
 said_text flights (Evict i keys) v = []
-said_text flights (Stop i) v = []
+said_text flights (Stop i) v = codes "\n> " ++ decimal i ++ codes " stopped"
 
--- what is written of an event: its line's number, its words, and what it came to
+-- what is written of an event: its line's number, its words, and what it came to, perhaps with a node's line behind it
 abbrev pub outcome_text : ℕ → List ℕ → List ℕ → List ℕ
 outcome_text number line word = decimal number ++ codes " " ++ trim line ++ codes ": " ++ word ++ codes "\n"

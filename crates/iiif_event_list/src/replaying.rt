@@ -1,15 +1,19 @@
 //! Worlds and their events, line by line.
 
-ghost use Rattle.std.specs.Prelude.{◌≡◌, ◌++◌, ◌<◌, ◌⊎◌, [], List, true, false, codes, length, option_copied, option_map, slice_get};
-ghost use Rattle.std.specs.Prelude.{if◌then◌else◌, string_bytes, Some, IfOk, IsErrOf, OnOk};
+ghost use Rattle.std.specs.Prelude.{◌≡◌, ◌++◌, ◌<◌, ◌-◌, ◌⊎◌, [], List, None, true, false, codes, length, option_copied};
+ghost use Rattle.std.specs.Prelude.{slice_get};
+ghost use Rattle.std.specs.Prelude.{string_bytes, Some, IfOk, IsErrOf, OnOk};
 ghost use Rattle.iiif_machine.specs.Worlds.{answers};
 ghost use Rattle.iiif_machine.specs.declared.events.Event.{Event};
 ghost use Rattle.iiif_machine.specs.declared.events.WorldFault.{WorldFault};
-ghost use Rattle.iiif_machine.specs.declared.rows.Flight.{Flight};
 ghost use Rattle.iiif_machine.specs.Nodes.{node_of};
 ghost use Rattle.iiif_world.specs.Code.{world_of};
-ghost use Rattle.iiif_event_list.specs.Texts.{answer_line, answers_text, entered_text, flight_text, kept_text, landed_text, met_text};
-ghost use Rattle.iiif_event_list.specs.Texts.{outcome_text, said_text, text_of, ticket_at, ticket_kept, ticket_text};
+ghost use Rattle.iiif_tables.specs.declared.table.Class.TheVariants.{Local};
+ghost use Rattle.iiif_event_list.specs.Texts.{answer_line, answers_text, ending_word, entered_text, failed_text, flight_ticket, kept_word};
+ghost use Rattle.iiif_event_list.specs.Texts.{landed_text, landing_word, lead_text, loaded_text, meeting_word, met_text, note_text, outcome_text};
+ghost use Rattle.iiif_event_list.specs.Texts.{read_text, replied_text, said_text, served_text, spaced, taken_text, taken_word, text_of, ticket_at};
+ghost use Rattle.iiif_event_list.specs.Texts.{ticket_kept};
+ghost use Rattle.iiif_records.specs.Lines.{step_line, ticket_words};
 ghost use Rattle.iiif_event_list.specs.Code.{NeverBad};
 ghost use Rattle.iiif_event_list.specs.Spellings.{AreNoEvent, IsSetting};
 ghost use Rattle.iiif_event_list.specs.Replays.{AreBad, AreWordsOf, BeginsNone, Comes, Happens, HasBegun, IsAlone, IsBad, IsComment};
@@ -20,10 +24,15 @@ use crate::describing::Description;
 use crate::fault::LineFault;
 use crate::reading::event;
 use crate::rows::put_rows;
-use crate::values::put_answer;
+use crate::values::{key_bytes, put_answer};
 use iiif_machine::node::Node;
-use iiif_machine::{Answer, Call, CallState, Event, Key, WorldFault};
+use iiif_machine::{
+    Answer, Call, CallState, Caller, Event, Flight, Key, Lead, Stage, Value, WorldFault,
+};
 use iiif_pixel::NoMemory;
+use iiif_records::{Step, push_step};
+use iiif_source::ReadFault;
+use iiif_tables::Class;
 use iiif_world::World;
 use std::alloc::Global;
 use std::mem::replace;
@@ -78,7 +87,7 @@ fn ticket_kept(world: &World, node: usize, key: &Key) -> Result<Option<u64>, NoM
 
 /// Writes a ticket, where there is one.
 fn put_ticket(text: &mut String, ticket: Option<u64>) -> Result<(), NoMemory>
-    ensures { OnOk result (string_bytes text.new ≡ string_bytes text.old ++ ticket_text ticket) }
+    ensures { OnOk result (string_bytes text.new ≡ string_bytes text.old ++ ticket_words ticket) }
 {
     match ticket {
         Some(ticket) => write!(text, " {ticket}"),
@@ -88,7 +97,7 @@ fn put_ticket(text: &mut String, ticket: Option<u64>) -> Result<(), NoMemory>
 
 /// The ticket of a flight, where it is there.
 fn flight_ticket(world: &World, flight: usize) -> Option<u64>
-    ensures { result ≡ option_map (λ (fl : Flight). fl.lead.ticket) (slice_get (world_of world.now).flights flight) }
+    ensures { result ≡ flight_ticket (world_of world.now) flight }
 {
     match world.contents().flights.get(flight) {
         Some(flight) => Some(flight.lead.ticket),
@@ -96,51 +105,112 @@ fn flight_ticket(world: &World, flight: usize) -> Option<u64>
     }
 }
 
-/// Writes the ticket of a flight, and its number.
-fn put_flight(text: &mut String, world: &World, flight: usize) -> Result<(), NoMemory>
-    ensures { OnOk result (string_bytes text.new ≡ string_bytes text.old ++ flight_text (world_of world.now) flight) }
+/// Writes a step, as a record tells it.
+fn put_step(
+    text: &mut String,
+    words: &str,
+    class: Class,
+    ticket: Option<u64>,
+    key: &[u8],
+) -> Result<(), NoMemory>
+    ensures { OnOk result (string_bytes text.new ≡ string_bytes text.old ++ step_line words.now class ticket key.now) }
 {
-    put_ticket(text, flight_ticket(world, flight))?;
-    write!(text, " {flight}")
+    let step = Step {
+        words,
+        class,
+        ticket,
+        key,
+    };
+    push_step(text, &step)
 }
 
-/// Writes whether a call joins a flight, or leads it.
-fn put_meeting(text: &mut String, joins: bool) -> Result<(), NoMemory>
-    ensures { OnOk result (string_bytes text.new ≡ string_bytes text.old ++ (if joins then codes ": joins" else codes ": leads")) }
+/// Writes a step that a node writes: its words, the class, the ticket of the flight and the key.
+fn put_note(
+    alloc: Global,
+    text: &mut String,
+    node: usize,
+    step: &str,
+    class: Class,
+    ticket: Option<u64>,
+    key: &Key,
+) -> Result<(), NoMemory>
+    ensures { OnOk result (string_bytes text.new ≡ string_bytes text.old ++ note_text node step.now class ticket key.now) }
 {
-    text.push_str(if joins { ": joins" } else { ": leads" })
+    let bytes = key_bytes(alloc, key)?;
+    write!(text, "\n> {node} ")?;
+    put_step(text, step, class, ticket, bytes.as_slice())
+}
+
+/// Whether a call joins a flight, or leads it.
+fn meeting_word(joins: bool) -> &'static str
+    ensures { result.now ≡ meeting_word joins }
+{
+    if joins { "joins" } else { "leads" }
+}
+
+/// Writes that a call found what is kept, by the ticket.
+fn put_hit(alloc: Global, text: &mut String, world: &World, who: &Caller) -> Result<(), NoMemory>
+    ensures { OnOk result (string_bytes text.new ≡ string_bytes text.old
+        ++ (codes ": hit" ++ ticket_words (ticket_kept (world_of world.now) who.now.node who.now.key)
+        ++ note_text who.now.node (codes "hit") who.now.class (ticket_kept (world_of world.now) who.now.node who.now.key) who.now.key)) }
+{
+    let ticket = ticket_kept(world, who.node, &who.key)?;
+    text.push_str(": hit")?;
+    put_ticket(text, ticket)?;
+    put_note(alloc, text, who.node, "hit", who.class, ticket, &who.key)
+}
+
+/// Writes that a call joins a flight, or leads it: its ticket and its number.
+fn put_flight(
+    alloc: Global,
+    text: &mut String,
+    joins: bool,
+    ticket: Option<u64>,
+    flight: usize,
+    who: &Caller,
+) -> Result<(), NoMemory>
+    ensures { OnOk result (string_bytes text.new ≡ string_bytes text.old
+        ++ (codes ": " ++ meeting_word joins ++ ticket_words ticket ++ spaced flight
+        ++ note_text who.now.node (meeting_word joins) who.now.class ticket who.now.key)) }
+{
+    let word = meeting_word(joins);
+    text.push_str(": ")?;
+    text.push_str(word)?;
+    put_ticket(text, ticket)?;
+    write!(text, " {flight}")?;
+    put_note(alloc, text, who.node, word, who.class, ticket, &who.key)
 }
 
 /// Writes what a call that entered met, where there were so many flights before.
-fn put_met(text: &mut String, world: &World, flights: usize, call: &Call) -> Result<(), NoMemory>
+fn put_met(
+    alloc: Global,
+    text: &mut String,
+    world: &World,
+    flights: usize,
+    call: &Call,
+) -> Result<(), NoMemory>
     ensures { OnOk result (string_bytes text.new
         ≡ string_bytes text.old ++ met_text flights (world_of world.now) call.now.caller call.now.state) }
 {
     match &call.state {
-        CallState::Hit(_) => {
-            let ticket = ticket_kept(world, call.caller.node, &call.caller.key)?;
-            text.push_str(": hit")?;
-            put_ticket(text, ticket)
-        }
+        CallState::Hit(_) => put_hit(alloc, text, world, &call.caller),
         CallState::In(flight) => {
-            put_meeting(text, *flight < flights)?;
-            put_flight(text, world, *flight)
+            let ticket = flight_ticket(world, *flight);
+            put_flight(
+                alloc,
+                text,
+                *flight < flights,
+                ticket,
+                *flight,
+                &call.caller,
+            )
         }
         CallState::Fresh | CallState::Gone => Ok(()),
     }
 }
 
-/// Writes whether what a flight landed with is kept, by its ticket.
-fn put_kept(text: &mut String, ticket: u64, kept: Option<u64>) -> Result<(), NoMemory>
-    ensures { OnOk result (string_bytes text.new ≡ string_bytes text.old ++ kept_text ticket kept) }
-{
-    match kept {
-        Some(kept) if kept == ticket => text.push_str(": kept"),
-        _ => text.push_str(": dropped"),
-    }
-}
-
 fn put_entered(
+    alloc: Global,
     text: &mut String,
     world: &World,
     flights: usize,
@@ -150,31 +220,274 @@ fn put_entered(
         ≡ string_bytes text.old ++ entered_text flights (world_of world.now) (slice_get (world_of world.now).calls call)) }
 {
     match world.contents().calls.get(call) {
-        Some(call) => put_met(text, world, flights, call),
+        Some(call) => put_met(alloc, text, world, flights, call),
         None => Ok(()),
     }
 }
 
-fn put_landed(text: &mut String, world: &World, flight: usize) -> Result<(), NoMemory>
+/// Writes a step of the leader of a flight.
+fn put_lead(alloc: Global, text: &mut String, step: &str, lead: &Lead) -> Result<(), NoMemory>
+    ensures { OnOk result (string_bytes text.new ≡ string_bytes text.old
+        ++ note_text lead.now.node step.now lead.now.class (Some lead.now.ticket) lead.now.key) }
+{
+    let ticket = Some(lead.ticket);
+    put_note(alloc, text, lead.node, step, lead.class, ticket, &lead.key)
+}
+
+/// Writes a step of the leader of a flight of this number, where it is there.
+fn put_led(
+    alloc: Global,
+    text: &mut String,
+    world: &World,
+    step: &str,
+    flight: usize,
+) -> Result<(), NoMemory>
+    ensures { OnOk result (string_bytes text.new
+        ≡ string_bytes text.old ++ lead_text step.now (slice_get (world_of world.now).flights flight)) }
+{
+    match world.contents().flights.get(flight) {
+        Some(flight) => put_lead(alloc, text, step, &flight.lead),
+        None => Ok(()),
+    }
+}
+
+/// Whether an owner that was asked answered with a value.
+fn taken_word(stage: &Stage) -> &'static str
+    ensures { result.now ≡ taken_word stage.now }
+{
+    match stage {
+        Stage::Ready(_, _) => "answered",
+        Stage::New
+        | Stage::Looked
+        | Stage::Asking
+        | Stage::Fallback(_)
+        | Stage::Parts(_)
+        | Stage::Ended(_) => "failed",
+    }
+}
+
+fn put_taken(alloc: Global, text: &mut String, world: &World, flight: usize) -> Result<(), NoMemory>
+    ensures { OnOk result (string_bytes text.new
+        ≡ string_bytes text.old ++ taken_text (slice_get (world_of world.now).flights flight)) }
+{
+    match world.contents().flights.get(flight) {
+        Some(flight) => put_lead(alloc, text, taken_word(&flight.stage), &flight.lead),
+        None => Ok(()),
+    }
+}
+
+/// Whether it is a value.
+fn ending_word(outcome: &Result<Value, ReadFault>) -> &'static str
+    ensures { result.now ≡ ending_word outcome.now }
+{
+    match outcome {
+        Ok(_) => "value",
+        Err(_) => "fault",
+    }
+}
+
+/// With what a flight landed.
+fn landing_word(stage: &Stage) -> &'static str
+    ensures { result.now ≡ landing_word stage.now }
+{
+    match stage {
+        Stage::Ended(Some(outcome)) => ending_word(outcome),
+        Stage::Ended(None)
+        | Stage::New
+        | Stage::Looked
+        | Stage::Asking
+        | Stage::Fallback(_)
+        | Stage::Parts(_)
+        | Stage::Ready(_, _) => "",
+    }
+}
+
+/// Whether what a flight landed with is kept, by its ticket.
+fn kept_word(ticket: u64, kept: Option<u64>) -> &'static str
+    ensures { result.now ≡ kept_word ticket kept }
+{
+    match kept {
+        Some(kept) if kept == ticket => "kept",
+        _ => "dropped",
+    }
+}
+
+/// The words of a landing.
+fn landing(alloc: Global, ending: &str, kept: &str) -> Result<String, NoMemory>
+    ensures { IfOk result (λ step. string_bytes step ≡ codes "lands " ++ ending.now ++ codes " " ++ kept.now) }
+{
+    let mut step = String::from_str(alloc, "lands ")?;
+    step.push_str(ending)?;
+    step.push_str(" ")?;
+    step.push_str(kept)?;
+    Ok(step)
+}
+
+/// Writes whether what a flight landed with is kept, and the step of its leader.
+fn put_landing(
+    alloc: Global,
+    text: &mut String,
+    flight: &Flight,
+    kept: &str,
+) -> Result<(), NoMemory>
+    ensures { OnOk result (string_bytes text.new ≡ string_bytes text.old ++ (codes ": " ++ kept.now
+        ++ lead_text (codes "lands " ++ landing_word flight.now.stage ++ codes " " ++ kept.now) (Some flight.now))) }
+{
+    let step = landing(alloc, landing_word(&flight.stage), kept)?;
+    text.push_str(": ")?;
+    text.push_str(kept)?;
+    put_lead(alloc, text, step.as_str(), &flight.lead)
+}
+
+fn put_landed(
+    alloc: Global,
+    text: &mut String,
+    world: &World,
+    flight: usize,
+) -> Result<(), NoMemory>
     ensures { OnOk result (string_bytes text.new
         ≡ string_bytes text.old ++ landed_text (world_of world.now) (slice_get (world_of world.now).flights flight)) }
 {
     match world.contents().flights.get(flight) {
         Some(flight) => {
             let lead = &flight.lead;
-            put_kept(text, lead.ticket, ticket_kept(world, lead.node, &lead.key)?)
+            let kept = ticket_kept(world, lead.node, &lead.key)?;
+            put_landing(alloc, text, flight, kept_word(lead.ticket, kept))
         }
         None => Ok(()),
     }
 }
 
-/// Writes what is said of an event that was done, where there were so many flights before.
-fn put_said(text: &mut String, flights: usize, event: &Event, world: &World) -> Result<(), NoMemory>
+/// Writes the step of a node that serves an ask.
+fn put_served(alloc: Global, text: &mut String, world: &World, ask: usize) -> Result<(), NoMemory>
+    ensures { OnOk result (string_bytes text.new
+        ≡ string_bytes text.old ++ served_text (slice_get (world_of world.now).asks ask)) }
+{
+    match world.contents().asks.get(ask) {
+        Some(ask) => put_note(
+            alloc,
+            text,
+            ask.node,
+            "serves",
+            Class::Local,
+            None,
+            &ask.key,
+        ),
+        None => Ok(()),
+    }
+}
+
+/// Writes the step of a node that replies what its call knows.
+fn put_reply(
+    alloc: Global,
+    text: &mut String,
+    call: &Call,
+    outcome: &Result<Value, ReadFault>,
+) -> Result<(), NoMemory>
+    ensures { OnOk result (string_bytes text.new ≡ string_bytes text.old
+        ++ note_text call.now.caller.node (codes "replies " ++ ending_word outcome.now) Local None call.now.caller.key) }
+{
+    let word = ending_word(outcome);
+    let step = format!(in alloc; "replies {word}")?;
+    let who = &call.caller;
+    put_note(
+        alloc,
+        text,
+        who.node,
+        step.as_str(),
+        Class::Local,
+        None,
+        &who.key,
+    )
+}
+
+fn put_replied(alloc: Global, text: &mut String, world: &World, call: usize) -> Result<(), NoMemory>
+    ensures { OnOk result (string_bytes text.new ≡ string_bytes text.old
+        ++ replied_text (slice_get (world_of world.now).calls call)
+        (slice_get (world_of world.now).replies (length (world_of world.now).replies - 1))) }
+{
+    let all = world.contents();
+    match (all.calls.get(call), all.replies.last()) {
+        (Some(call), Some(reply)) => put_reply(alloc, text, call, &reply.outcome),
+        _ => Ok(()),
+    }
+}
+
+/// Writes the step of a read of this key: a sum is read nowhere.
+fn put_read(alloc: Global, text: &mut String, node: usize, key: &Key) -> Result<(), NoMemory>
+    ensures { OnOk result (string_bytes text.new ≡ string_bytes text.old ++ read_text node key.now) }
+{
+    match key {
+        Key::Tile(_) => put_note(alloc, text, node, "reads", Class::Local, None, key),
+        Key::Sum(_) => Ok(()),
+    }
+}
+
+fn put_loaded(
+    alloc: Global,
+    text: &mut String,
+    world: &World,
+    flight: usize,
+) -> Result<(), NoMemory>
+    ensures { OnOk result (string_bytes text.new
+        ≡ string_bytes text.old ++ loaded_text (slice_get (world_of world.now).flights flight)) }
+{
+    match world.contents().flights.get(flight) {
+        Some(flight) => put_read(alloc, text, flight.lead.node, &flight.lead.key),
+        None => Ok(()),
+    }
+}
+
+/// Writes the step of a read that failed.
+fn put_failed(
+    alloc: Global,
+    text: &mut String,
+    world: &World,
+    flight: usize,
+    fault: &ReadFault,
+) -> Result<(), NoMemory>
+    ensures { OnOk result (string_bytes text.new
+        ≡ string_bytes text.old ++ failed_text fault.now (slice_get (world_of world.now).flights flight)) }
+{
+    match world.contents().flights.get(flight) {
+        Some(flight) => {
+            let step = format!(in alloc; "fails {} {}", fault.place, fault.cause)?;
+            let lead = &flight.lead;
+            put_note(
+                alloc,
+                text,
+                lead.node,
+                step.as_str(),
+                Class::Local,
+                None,
+                &lead.key,
+            )
+        }
+        None => Ok(()),
+    }
+}
+
+/// Writes what is said of an event that was done, where there were so many flights before, and the step that a node writes of it.
+fn put_said(
+    alloc: Global,
+    text: &mut String,
+    flights: usize,
+    event: &Event,
+    world: &World,
+) -> Result<(), NoMemory>
     ensures { OnOk result (string_bytes text.new ≡ string_bytes text.old ++ said_text flights event.now (world_of world.now)) }
 {
     match event {
-        Event::Enter(call) => put_entered(text, world, flights, *call),
-        Event::Land(flight, _) => put_landed(text, world, *flight),
+        Event::Enter(call) => put_entered(alloc, text, world, flights, *call),
+        Event::AskPeer(flight) => put_led(alloc, text, world, "asks", *flight),
+        Event::Serve(ask) => put_served(alloc, text, world, *ask),
+        Event::Reply(call) => put_replied(alloc, text, world, *call),
+        Event::Take(flight, _) => put_taken(alloc, text, world, *flight),
+        Event::Lose(flight) => put_led(alloc, text, world, "failed", *flight),
+        Event::Load(flight) => put_loaded(alloc, text, world, *flight),
+        Event::SourceFault(flight, fault) => put_failed(alloc, text, world, *flight, fault),
+        Event::Land(flight, _) => put_landed(alloc, text, world, *flight),
+        Event::Stop(node) => write!(text, "\n> {node} stopped"),
         _ => Ok(()),
     }
 }
@@ -189,7 +502,7 @@ fn done_word(
     ensures { IfOk result (λ text. string_bytes text ≡ codes "done" ++ said_text flights event.now (world_of world.now)) }
 {
     let mut text = String::from_str(alloc, "done")?;
-    put_said(&mut text, flights, event, world)?;
+    put_said(alloc, &mut text, flights, event, world)?;
     Ok(text)
 }
 

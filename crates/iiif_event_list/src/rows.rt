@@ -1,7 +1,7 @@
 //! All rows of a world, as text.
 
 use crate::values::{
-    class_word, put_answer, put_fault, put_key, put_name, put_numbers, put_outcome, put_value,
+    put_answer, put_fault, put_key, put_name, put_numbers, put_outcome, put_value,
 };
 use iiif_machine::listing::Entry;
 use iiif_machine::node::Node;
@@ -10,6 +10,7 @@ use iiif_machine::{
     Ask, Call, CallState, Flight, Given, Progress, Purpose, Reply, RequestRow, Stage,
 };
 use iiif_pixel::NoMemory;
+use iiif_records::class_word;
 use iiif_tables::{Book, Place};
 use iiif_world::World;
 

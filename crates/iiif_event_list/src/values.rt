@@ -1,18 +1,19 @@
 //! Keys, values and answers, as text.
 
-ghost use Rattle.std.specs.Prelude.{◌≡◌, ◌++◌, OnOk, string_bytes};
+ghost use Rattle.std.specs.Prelude.{◌≡◌, ◌++◌, IfOk, OnOk, string_bytes};
 ghost use Rattle.std.specs.List.{flat_map};
 ghost use Rattle.iiif_pixel.specs.Geometry.{channels_of, top_of};
 ghost use Rattle.iiif_pixel.specs.Depths.{span_values};
+ghost use Rattle.iiif_machine.specs.Keys.{key_bytes};
 ghost use Rattle.iiif_event_list.specs.Texts.{answer_text, bits_word, fault_text, kind_word, picture_text, refusal_word, spaced};
 
-use iiif_keys::{Name, SumKey, SumVal, TileKey, TileVal};
+use iiif_keys::{CacheKey, Name, SumKey, SumVal, TileKey, TileVal};
 use iiif_machine::{Answer, Key, Numbers, Value};
 use iiif_pixel::{Depth, Kind, NoMemory, Raster, Rect, Span};
 use iiif_request::Refusal;
 use iiif_source::ReadFault;
-use iiif_tables::Class;
 use percent_encoding::{CONTROLS, utf8_percent_encode};
+use std::alloc::Global;
 
 /// Places and sides, each behind a space.
 fn put_sides(text: &mut String, sides: &[u32]) -> Result<(), NoMemory> {
@@ -55,6 +56,17 @@ pub(crate) fn put_key(text: &mut String, key: &Key) -> Result<(), NoMemory> {
     match key {
         Key::Tile(key) => put_tile_key(text, key),
         Key::Sum(key) => put_sum_key(text, key),
+    }
+}
+
+/// The bytes of a key. The only error is lack of memory.
+#[tactic(auto, unfolding(iiif_machine::specs::Keys::key_bytes))]
+pub(crate) fn key_bytes(alloc: Global, key: &Key) -> Result<Vec<u8>, NoMemory>
+    ensures { IfOk result (λ bytes. bytes.items ≡ key_bytes key.now) }
+{
+    match key {
+        Key::Tile(key) => key.bytes(alloc),
+        Key::Sum(key) => key.bytes(alloc),
     }
 }
 
@@ -189,13 +201,6 @@ pub fn put_answer(text: &mut String, answer: &Answer) -> Result<(), NoMemory>
             put_raster(text, raster)
         }
         Answer::Failed(fault) => put_fault(text, fault),
-    }
-}
-
-pub(crate) fn class_word(class: Class) -> &'static str {
-    match class {
-        Class::Wide => "wide",
-        Class::Local => "local",
     }
 }
 

@@ -82,7 +82,9 @@ fn is_refused(alloc: Global, text: &str, line: u64, wrote: &str) -> bool {
 #[test]
 fn event_that_is_not_allowed_stops_a_judge(rt: HostRuntime) {
     let text = "edge 1\npicture p gray 8 1 1 blank\nnode a 2 100 4 a\nwant 0 p full max 0 default\nenter 0\nenter 0\nenter 0\n";
-    let wrote = "4 want 0 p full max 0 default: done\n5 enter 0: done: leads 1 0\n6 enter 0: not now\n";
+    let wrote = "4 want 0 p full max 0 default: done\n\
+        5 enter 0: done: leads 1 0\n> 0 leads local 1 000170000000010000000000000000\n\
+        6 enter 0: not now\n";
     assert!(rt; is_refused(rt.alloc(), text, 6, wrote));
     assert!(rt; stop_of(rt.alloc(), Mode::Exploring, text).is_none());
     assert!(rt; is_written(rt.alloc(), &Stop::NotNow(6), "line 6: not now"));
