@@ -1,7 +1,7 @@
 """What a target is answered by the IIIF Image API 3.0 and the choices of docs/operate/CONFORMANCE.md: the whole answer, head and body.
 
 `Answers` holds pictures by name and the server's settings; `answer` gives the bytes of one answer. Averages are exact, place by place
-over the whole region, by the evaluation that tests/found has; nothing here knows of tiles, blocks or bands.
+over the whole region, by the evaluation that tests/interop has; nothing here knows of tiles, blocks or bands.
 """
 import json
 import os

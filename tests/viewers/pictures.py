@@ -1,6 +1,6 @@
 """Pictures of each kind, as TIFF files, and the pixels that a browser must show of them.
 
-What a request shows is worked out by tests/found/requests.py, place by place over the whole region, and knows nothing of tiles, of the
+What a request shows is worked out by tests/interop/requests.py, place by place over the whole region, and knows nothing of tiles, of the
 worker or of the program's answer. A screen gets 8 bits: of samples of 16 bits their high byte.
 """
 import importlib.util
@@ -19,7 +19,7 @@ def module_of(path):
     return module
 
 
-EVALUATION = module_of("tests/found/requests.py")
+EVALUATION = module_of("tests/interop/requests.py")
 
 
 class Picture:

@@ -1,6 +1,6 @@
 /* A plain server over libvips: one thread for each connection, as much of the IIIF Image API as the viewers of this folder ask for.
 
-       cc -O2 -o plain bench/crowd/plain.c $(pkg-config --cflags --libs vips) -lpthread
+       cc -O2 -o plain bench/load/plain.c $(pkg-config --cflags --libs vips) -lpthread
        ./plain PORT FILE
 
    /iiif/ANY/REGION/SIZE/0/default.tif: REGION is full or x,y,w,h, SIZE is max, w, or w,h. The region is cut out of FILE (vips_extract_area),

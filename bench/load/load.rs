@@ -1,6 +1,6 @@
 //! Viewers that keep their connections: each asks for the targets of its list one after another, and notes how long each whole answer took.
 //!
-//!     rustc --edition 2021 -O -o /tmp/load bench/crowd/load.rs
+//!     rustc --edition 2021 -O -o /tmp/load bench/load/load.rs
 //!     /tmp/load LISTS TIMES [KEPT]
 //!
 //! LISTS has a line `ADDRESS TARGET` for each request, and an empty line between two viewers. All viewers connect first and begin at once. A

@@ -1,6 +1,6 @@
 """The program beside an evaluation of the definitions in Python, on random requests.
 
-    /usr/bin/python3 tests/found/requests.py crates/iiif_serve/out/iiif_serve [COUNT] [SEED]
+    /usr/bin/python3 tests/interop/requests.py crates/iiif_serve/out/iiif_serve [COUNT] [SEED]
 
 Pictures of up to 70 by 70 (gray and RGB of 8 and 16 bits, bits), in both byte orders, gray ones also counted down from white, in strips
 and tiles, some with samples about the half at which bits become white; edges from 1 to 64, regions, sizes up to twice the region's, turns

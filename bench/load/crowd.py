@@ -1,9 +1,9 @@
 """Viewers that keep their connections, on this program, on the program before, on IIPImage and on a plain C server over libvips.
 
-    rustc --edition 2021 -O -o /tmp/load bench/crowd/load.rs
-    cc -O2 -o /tmp/plain bench/crowd/plain.c $(pkg-config --cflags --libs vips) -lpthread
-    cc -O2 -o /tmp/floor bench/crowd/floor.c -lpthread
-    /usr/bin/python3 bench/crowd/crowd.py --program crates/iiif_serve/out/iiif_serve --load /tmp/load --plain /tmp/plain --floor /tmp/floor [--before BUILD] [--nodes 2 3]
+    rustc --edition 2021 -O -o /tmp/load bench/load/load.rs
+    cc -O2 -o /tmp/plain bench/load/plain.c $(pkg-config --cflags --libs vips) -lpthread
+    cc -O2 -o /tmp/floor bench/load/floor.c -lpthread
+    /usr/bin/python3 bench/load/crowd.py --program crates/iiif_serve/out/iiif_serve --load /tmp/load --plain /tmp/plain --floor /tmp/floor [--before BUILD] [--nodes 2 3]
 
 Needs numpy, Pillow, libvips-tools, libvips-dev, lighttpd and iipimage-server. The picture is the gray one of 10,000 square of bench/compare,
 in tiles of 256, which all read. IIPImage reads in turn a pyramid too, which `vips tiffsave` makes of it: that is the form that it wants, and of

@@ -1,7 +1,7 @@
 /* What a native tile takes at least: a server that reads a request, 64 KiB of a file and writes these behind a head, with one thread for each
    connection and nothing else. What it answers is no image.
 
-       cc -O2 -o floor bench/crowd/floor.c -lpthread
+       cc -O2 -o floor bench/load/floor.c -lpthread
        ./floor PORT FILE [MIB | map | send]
 
    With a third word it keeps as well: each tile is read into memory of its own, of so many MiB in turn, which are touched at the start, and is written

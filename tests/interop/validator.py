@@ -1,6 +1,6 @@
 """What the program answers where the official validator's tests of requests ask for TIFF in place of JPEG.
 
-    /usr/bin/python3 tests/found/validator.py crates/iiif_serve/out/iiif_serve
+    /usr/bin/python3 tests/interop/validator.py crates/iiif_serve/out/iiif_serve
 
 The picture has 10 by 10 coloured squares with a side of 100, as the validator's own, here of random colours. Needs numpy. Each line
 names the test, the target and what was answered; the status is 1 where that isn't what is wanted.

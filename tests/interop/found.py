@@ -1,6 +1,6 @@
 """TIFF files as other programs write them, opened by the program: accepted with the same pixels, or refused by the right line.
 
-    /usr/bin/python3 tests/found/found.py --program crates/iiif_serve/out/iiif_serve
+    /usr/bin/python3 tests/interop/found.py --program crates/iiif_serve/out/iiif_serve
 
 Needs numpy, Pillow, tiffcp (libtiff-tools), vips (libvips-tools), gdal_translate and gdaladdo (gdal-bin) and ImageMagick's
 convert. Six small pictures (gray and RGB of 8 and of 16 bits, bilevel, and gray of 16 bits counted down from white, 203 by 151, whose sides
