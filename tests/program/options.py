@@ -15,7 +15,7 @@ import urllib.request
 
 HERE = os.path.dirname(os.path.abspath(__file__))
 sys.path.insert(0, os.path.dirname(HERE))
-from found.requests import plain  # noqa: E402
+from interop.requests import plain  # noqa: E402
 from hostile import wire  # noqa: E402
 from hostile.images import Answers, file_of  # noqa: E402
 from hostile.program import BASE, Refused, Server, connected, exactly, free_port, started, to_the_end  # noqa: E402
