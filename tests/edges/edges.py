@@ -20,7 +20,7 @@ import tempfile
 import time
 
 HERE = os.path.dirname(os.path.abspath(__file__))
-sys.path[:0] = [os.path.join(HERE, "..", name) for name in ("hostile", "found", "strangers")]
+sys.path[:0] = [os.path.join(HERE, "..", name) for name in ("hostile", "interop", "strangers")]
 import files  # noqa: E402
 import program as running  # noqa: E402
 from places import picture  # noqa: E402

@@ -9,7 +9,7 @@ import program as running
 import tiff
 from images import Answers
 
-sys.path.insert(0, os.path.join(os.path.dirname(os.path.abspath(__file__)), "..", "found"))
+sys.path.insert(0, os.path.join(os.path.dirname(os.path.abspath(__file__)), "..", "interop"))
 from requests import plain  # noqa: E402
 
 SAMPLE = (b"II*\0\x18\0\0\0" + bytes(range(0, 160, 10)) + struct.pack("<H", 9)

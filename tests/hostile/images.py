@@ -9,7 +9,7 @@ import re
 import struct
 import sys
 
-sys.path.insert(0, os.path.join(os.path.dirname(os.path.abspath(__file__)), "..", "found"))
+sys.path.insert(0, os.path.join(os.path.dirname(os.path.abspath(__file__)), "..", "interop"))
 from requests import scaled, strip_of, turned  # noqa: E402
 
 LINES = {1: "Q1 head", 2: "Q2 method", 3: "Q3 path", 4: "Q4 identifier", 5: "Q5 region", 6: "Q6 size", 7: "Q7 rotation", 8: "Q8 quality",

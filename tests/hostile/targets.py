@@ -7,7 +7,7 @@ import program as running
 import tiff
 from images import Answers, escaped
 
-sys.path.insert(0, os.path.join(os.path.dirname(os.path.abspath(__file__)), "..", "found"))
+sys.path.insert(0, os.path.join(os.path.dirname(os.path.abspath(__file__)), "..", "interop"))
 from requests import plain  # noqa: E402
 
 NAMES = ["a", "a/b", "ü€", "%41", "full", "info.json", "a b?c#d", "x" * 1024]

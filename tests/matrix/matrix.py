@@ -15,7 +15,7 @@ import sys
 import threading
 
 HERE = os.path.dirname(os.path.abspath(__file__))
-sys.path[:0] = [os.path.join(HERE, "..", name) for name in ("hostile", "found")]
+sys.path[:0] = [os.path.join(HERE, "..", name) for name in ("hostile", "interop")]
 import tiff  # noqa: E402
 from images import Answers  # noqa: E402
 from program import BASE, Server, exactly  # noqa: E402
