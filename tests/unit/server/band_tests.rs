@@ -359,3 +359,33 @@ static SHARED: [Table; 3] = [
 fn parts_of_one_block_are_made_by_several_workers(rt: HostRuntime) {
     all_are(&rt, &SHARED);
 }
+
+/// A quarter of this picture at one place.
+const QUARTER: &[u8] = b"/iiif/a/0,0,8,8/1,1/0/default.tif";
+
+const QUARTER_MEAN: Case<'static> = (
+    Ask::Body(QUARTER),
+    Want::Whole(200, Text::Long(175, &[75])),
+);
+
+/// It is planned with the level of the whole picture's block, 4, of which one part has pixels of the quarter: a block of level 3, the least
+/// level whose parts are shared out. Below that stand 4, 16 and 64 blocks of levels 2 to 0: 86 in all, each asked for once.
+const EACH_OF_QUARTER_ONCE: Case<'static> = (Ask::Sums, Want::Booked(86, 86, 86));
+
+static QUARTER_SHARED: [Table; 2] = [
+    (
+        "by two",
+        Setup { workers: 2, ..HELD },
+        &[QUARTER_MEAN, (Ask::Alone, IS_NOT_SO), EACH_OF_QUARTER_ONCE],
+    ),
+    (
+        "by one",
+        Setup { turns: 50, ..HELD },
+        &[QUARTER_MEAN, (Ask::Alone, IS_SO), EACH_OF_QUARTER_ONCE],
+    ),
+];
+
+#[test]
+fn parts_of_a_block_of_64_tiles_are_made_by_two_workers(rt: HostRuntime) {
+    all_are(&rt, &QUARTER_SHARED);
+}
