@@ -5,7 +5,9 @@ of its proofs, and has the prover prove there that a law is false, by a worked l
     python3 tests/machine/wrong.py            # all: a line each; status 1 where a law isn't refuted
     python3 tests/machine/wrong.py NAME ..    # these
 
-So no older proof stands in the way: what refuses a definition is the law. Some ten seconds each. In a new text of wrong.txt `\\n` ends a line.
+So no older proof stands in the way: what refuses a definition is the law. Some twenty seconds each, and first the libraries below the
+machine, where `rt ci` didn't leave them. In wrong.txt a definition turns texts of one file, each of which stands there once: `old:` and
+`new:`, in which `\\n` ends a line.
 """
 import pathlib
 import shutil
@@ -53,11 +55,14 @@ class Wrong:
 
     def __init__(self, head, lines):
         self.name, _, self.what = head.removeprefix("wrong ").partition(": ")
-        words = dict(line.partition(": ")[::2] for line in lines[:4])
-        self.file, self.old, self.new = words["file"], words["old"], words["new"].replace("\\n", "\n")
-        self.module, self.law = words["law"].split()
-        self.sound = lines[4] == "sound"
-        self.proof = "\n".join(lines[5 if self.sound else 4:])
+        end = next(i for i, line in enumerate(lines) if line.startswith("law: "))
+        words = [line.partition(": ")[::2] for line in lines[:end]]
+        self.file = dict(words)["file"]
+        turns = iter(text.replace("\\n", "\n") for word, text in words if word in ("old", "new"))
+        self.turns = list(zip(turns, turns))
+        self.module, self.law = lines[end].removeprefix("law: ").split()
+        self.sound = lines[end + 1] == "sound"
+        self.proof = "\n".join(lines[end + (2 if self.sound else 1):])
 
 
 def read():
@@ -92,9 +97,11 @@ def planted(room, wrong, shared, sound):
     folder = bare(room, "iiif_machine")
     file = pathlib.Path(room, "crates", wrong.file)
     text = file.read_text()
-    if text.count(wrong.old) != 1:
+    if any(text.count(old) != 1 for old, new in wrong.turns):
         return False
-    file.write_text(text.replace(wrong.old, wrong.new))
+    for old, new in wrong.turns:
+        text = text.replace(old, new)
+    file.write_text(text)
     (folder / "src/laws.rt").write_text(LAWS.format(module=wrong.module, name=wrong.law))
     answers = folder / "proofs/laws/refuted"
     answers.mkdir(parents=True)
