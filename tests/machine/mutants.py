@@ -51,6 +51,9 @@ MUTANTS = [
     # Owners and versions
     ("49 replicas", "for n in range(50)", "for n in range(49)"),
     ("the farthest name owns", "return min(ring, key=", "return max(ring, key="),
+    ("tiles of an image have one owner", "here = hash_of(key_bytes(key))", "here = hash_of(key[1].encode())"),
+    ("the first name owns", "return min(ring, key=lambda name: (nearest(name), name.encode()))", "return ring[0]"),
+    ("the last name owns", "return min(ring, key=lambda name: (nearest(name), name.encode()))", "return ring[-1]"),
     ("points before a key", "- here) % 2**64", "* -1 + here) % 2**64"),
     ("all calls are wide", "return LOCAL if owner(self.ring, key) == self.name else WIDE", "return WIDE"),
     ("all messages are of version 1", "return 1 if p[3] == 255 else 2", "return 1"),
@@ -69,6 +72,7 @@ MUTANTS = [
     ("a value found again is kept once more", '("ready", ("ok", value), "nowhere")', '("ready", ("ok", value), "main")'),
     ("a local flight asks", "if not f or f[2] != WIDE:", "if not f:"),
     ("a flight asks its own node", "if node.name == name)", "if n == f[0])"),
+    ("a flight asks the node behind the owner", "self.asks.append((asked, f[1]", "self.asks.append(((asked + 1) % len(self.nodes), f[1]"),
     ("a flight asks the last node of the name", "asked = next(n for n, node in enumerate(self.nodes) if node.name == name)",
      "asked = max(n for n, node in enumerate(self.nodes) if node.name == name)"),
     ("an ask is served at a node of any version", "if self.nodes[node].version < version:", "if False:"),
@@ -142,7 +146,8 @@ def stored():
             wrote += replayed.line(number, line)
     wrote += replayed.ended()
     with open(os.path.join(STORED, "stdout")) as lines:
-        pairs = itertools.zip_longest(wrote, lines.read().splitlines(), fillvalue="no line")
+        # What an event comes to may be several lines.
+        pairs = itertools.zip_longest("\n".join(wrote).splitlines(), lines.read().splitlines(), fillvalue="no line")
         return next((mine for mine, its in pairs if mine != its), None)
 
 
@@ -189,6 +194,11 @@ def main():
     jobs = [(args.program, args.count, mutant) for mutant in MUTANTS if args.only in mutant[0]]
     reported = 0
     with multiprocessing.Pool(args.jobs, maxtasksperchild=1) as pool:
+        # What differs where nothing is turned would be no one's report.
+        _, came, is_reported = pool.apply(turned, ((args.program, min(args.count, 100), ("nothing is turned",)),))
+        if is_reported:
+            print("nothing is turned: %s" % came)
+            return 1
         for name, came, is_reported in pool.imap(turned, jobs):
             reported += is_reported
             print("%s: %s" % (name, came), flush=True)
