@@ -106,7 +106,7 @@ fn held_in<R: Wait>(
     Some(held)
 }
 
-/// What that node holds before it loads all the keys, and behind that.
+/// Returns the keys that the node holds before it loads all of them, and behind that.
 fn held_around<R: Wait>(rt: &R, alloc: Global) -> Option<(Vec<u32>, Vec<u32>)> {
     let asked = Mutex::new(Vec::new(alloc));
     let group = group_at(alloc, 0, &asked, Blank::new(PARTS))?;

@@ -4,7 +4,7 @@ use crate::fixtures::is_same;
 use iiif_records::{Verdict, judge};
 use std::alloc::Global;
 
-/// What a replay of two nodes wrote: node 1 was stopped and ran again.
+/// The text of a replay of two nodes: node 1 was stopped and ran again.
 const REPLAYED: &str = "4 want 0 p full max 0 default: done\n\
     5 enter 0: done: leads 1 0\n> 0 leads local 1 0001\n\
     6 enter 1: done: hit 4\n> 1 hit wide 4 0002\n\
