@@ -6,19 +6,31 @@ ghost use Rattle.iiif_keys.specs.Blocks.{NamesPart};
 ghost use Rattle.iiif_keys.specs.Shapes.{HasPicture};
 ghost use Rattle.iiif_peer_groups.specs.Kinds.{sum_kind, system, tile_kind};
 ghost use Rattle.iiif_peer_groups.specs.Replying.{Carries, HasFault, HasValue, MayReply};
-ghost use Rattle.iiif_peer_wire.specs.Messages.{value_limit};
+ghost use Rattle.iiif_peer_wire.specs.Messages.{value_limit, IsAsk, IsReply};
 
 use crate::keys::key_of;
 use crate::replies::{reply_of, value_bytes};
 use iiif_keys::{CacheKey, Fault, Shape, SumKey, System, TileKey};
-use iiif_peer_server::Answers;
-use iiif_peer_wire::{Ask, Version};
+use iiif_peer_wire::{Answers, Ask, Version};
 use iiif_pixel::Depth;
 use iiif_source::Source;
-use iiif_sum_group::{Gate, Link, LocalHandle, Passes, SumCalls, TileCalls};
+use iiif_sum_group::{Gate, Link, LocalHandle, Note, Passes, Step, SumCalls, TileCalls};
+use iiif_tables::Class;
 use std::alloc::Global;
 use std::sync::Wait;
 use std::sync::ledger::Ledger;
+
+/// Makes the note of a step of an ask, which the calls of this pass answer.
+fn note_of<'a>(ask: &'a Ask, pass: u64, step: Step) -> Note<'a> {
+    Note {
+        step,
+        class: Class::Local,
+        rank: if ask.group == 1 { 0 } else { 1 },
+        pass,
+        ticket: 0,
+        key: ask.key.as_slice(),
+    }
+}
 
 /// A node's groups as other nodes have them: each ask is answered by this node, and no other is asked for the key. The handle has no way to
 /// ask one, and none to a source, so a value is the outcome of a call that entered its group.
@@ -97,6 +109,22 @@ impl<
         let receipt = self.groups.get_local(rt, passes, &key)?;
         value_bytes(alloc, &key, &shape, receipt)
     }
+
+    /// Returns the status and the value of the reply to an ask.
+    pub fn reply(&self, rt: &R, alloc: Global, passes: &mut Passes<J>, ask: &Ask) -> (u8, Vec<u8>)
+        requires { IsAsk ask.now.group ask.now.key.items }
+        ensures spelled { IsReply ask.now.key.items result.0 result.1.items }
+        ensures allowed { MayReply (system J.pictures J.edge J.gave J.stable J.honest) ask.now.version ask.now.group ask.now.key.items
+            result.0 result.1.items }
+    {
+        let key = ask.key.as_slice();
+        if ask.group == 1 {
+            let outcome = self.get_tile(rt, alloc, passes, ask.version, key);
+            return reply_of(alloc, outcome);
+        }
+        let outcome = self.get_sums(rt, alloc, passes, ask.version, key);
+        reply_of(alloc, outcome)
+    }
 }
 
 impl<
@@ -111,12 +139,14 @@ impl<
         MayReply (system J.pictures J.edge J.gave J.stable J.honest) version group key status value };
 
     fn answer(&self, rt: &R, alloc: Global, passes: &mut Passes<J>, ask: &Ask) -> (u8, Vec<u8>) {
-        let key = ask.key.as_slice();
-        if ask.group == 1 {
-            let outcome = self.get_tile(rt, alloc, passes, ask.version, key);
-            return reply_of(alloc, outcome);
+        let gate = self.groups.gate();
+        if !gate.records() {
+            return self.reply(rt, alloc, passes, ask);
         }
-        let outcome = self.get_sums(rt, alloc, passes, ask.version, key);
-        reply_of(alloc, outcome)
+        let pass = passes.tile.id;
+        gate.note(rt, &note_of(ask, pass, Step::Served));
+        let reply = self.reply(rt, alloc, passes, ask);
+        gate.note(rt, &note_of(ask, pass, Step::Replied(reply.0)));
+        reply
     }
 }

@@ -4,7 +4,7 @@ use Rattle.iiif_keys.specs.Bytes.{name_bytes}
 use Rattle.iiif_keys.specs.Faults.{fault_number}
 use Rattle.iiif_keys.specs.Names.{IsName}
 use Rattle.iiif_keys.specs.declared.fault.Fault.TheVariants.{NoMemory, UnknownName}
-use Rattle.iiif_peer_server.specs.Exchanges.{Answering}
+use Rattle.iiif_peer_wire.specs.Exchanges.{Answering}
 use Rattle.iiif_peer_wire.specs.declared.version.Version.{Version}
 use Rattle.iiif_peer_versions.specs.Digits.{name_limit}
 

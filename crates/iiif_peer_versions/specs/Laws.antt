@@ -1,6 +1,6 @@
 -- What holds of every key that is spelled with a version.
 use Rattle.std.specs.Prelude.{◌≡◌, ℕ, ◌<◌, ◌^◌, List, None, Option, Some}
-use Rattle.iiif_peer_server.specs.Exchanges.{Answering}
+use Rattle.iiif_peer_wire.specs.Exchanges.{Answering}
 use Rattle.iiif_peer_wire.specs.declared.version.Version.{Version}
 use Rattle.iiif_peer_versions.specs.Digits.{version_digits}
 use Rattle.iiif_peer_versions.specs.Keys.{IsMarked, IsSpelled, IsWireOf, RepliesIn}

@@ -7,8 +7,7 @@ ghost use Rattle.iiif_peer_versions.specs.Told.{told, told_by};
 use crate::file_versions::FileVersions;
 use iiif_fault::Numbered;
 use iiif_keys::Fault;
-use iiif_peer_server::Answers;
-use iiif_peer_wire::Ask;
+use iiif_peer_wire::{Answers, Ask};
 use std::alloc::Global;
 
 /// Listener for asks for other versions of files.

@@ -2,7 +2,7 @@
 
 ghost use Rattle.iiif_peer_versions.specs.Laws.{KeysStayApart, PlainIsAsItIs, PlainIsRepliedTo, VersionsStayApart};
 
-use iiif_peer_server::Answers;
+use iiif_peer_wire::Answers;
 
 /// So two nodes that read the same bytes read the same key, and have the same version of its image's file, whatever names their images
 /// have: also where a name itself ends in such digits.

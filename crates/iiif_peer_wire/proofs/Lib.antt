@@ -1,5 +1,6 @@
 mod Broken
 pub mod Cut
+mod ExchangeLemmas
 pub mod Only
 pub mod Parts
 pub mod Taken

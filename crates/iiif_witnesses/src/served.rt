@@ -4,7 +4,7 @@ ghost use Rattle.std.specs.Prelude.{◌≡◌, ℕ, ◌<◌, List, IfOk, IsTrue,
 ghost use Rattle.std.specs.Result.{OnErr};
 ghost use Rattle.iiif_witnesses.specs.Code.{images_of, IsLocal};
 ghost use Rattle.iiif_witnesses.specs.Served.{GivesShown, SendsOfMemory};
-ghost use Rattle.iiif_server.specs.Stocks.{HasStock};
+ghost use Rattle.iiif_server.specs.GroupConfigs.{HasGroupConfig};
 
 use crate::nodes::{BYTES, ENTRIES, Other, hold, links_to, no_links, ring};
 use crate::pair::{Blanks, Pair, PairFault, blanks};
@@ -13,7 +13,7 @@ use iiif_http_front::Call;
 use iiif_io::Outlet;
 use iiif_keys::{Fault, Name, System};
 use iiif_pixel::NoMemory;
-use iiif_server::{Config, Cut, Node, Room, Sent, Stock};
+use iiif_server::{Config, Cut, GroupConfig, Node, Room, Sent};
 use iiif_source::MemSource;
 use iiif_tables::Book;
 use iiif_tile_group::Catalogue;
@@ -48,20 +48,20 @@ pub struct ServedByTwo {
 }
 
 /// Makes what a group of a server is made with, which stands at this place of the ring.
-fn make_stock<N: Drop>(
+fn make_group_config<N: Drop>(
     alloc: Global,
     place: usize,
     links: Vec<N>,
     blank: Blank,
-) -> Result<Stock<N, NoGate>, NoMemory>
+) -> Result<GroupConfig<N, NoGate>, NoMemory>
     requires place { place < 2 }
     requires links { vec_len links ≡ 2 }
-    ensures { HasStock blank (λ stock. stock) result }
+    ensures { HasGroupConfig blank (λ config. config) result }
 {
     let Some(entries) = NonZeroUsize::new(ENTRIES) else {
         return Err(AllocError);
     };
-    Ok(Stock {
+    Ok(GroupConfig {
         room: Room {
             bytes: BYTES,
             entries,
@@ -91,8 +91,8 @@ fn make_server<R, J: System, N: Drop>(
     ensures settings { IfOk result (λ n. n.settings ≡ config) }
     ensures items { IfOk result (λ n. n.items ≡ catalogue) }
 {
-    let tiles = make_stock(alloc, place, links.0, blanks.0)?;
-    let sums = make_stock(alloc, place, links.1, blanks.1)?;
+    let tiles = make_group_config(alloc, place, links.0, blanks.0)?;
+    let sums = make_group_config(alloc, place, links.1, blanks.1)?;
     Node::new(alloc, config, catalogue, tiles, sums)
 }
 

@@ -1,7 +1,7 @@
 use Rattle.std.proofs.Common.{arith}
 use Rattle.iiif_peer_wire.specs.Faults.{LeftAt}
-use Rattle.iiif_peer_server.proofs.ExchangeLemmas.{begins_so, goes_further, ends_so}
-use Rattle.iiif_peer_server.proofs.serve.serve_peer.Goals as goal
+use Rattle.iiif_peer_wire.proofs.ExchangeLemmas.{begins_so, goes_further, ends_so}
+use Rattle.iiif_peer_wire.proofs.serve.serve_peer.Goals as goal
 
 pub loop-peers-init : goal.loop-peers-init
 loop-peers-init g c = record {

@@ -1,7 +1,7 @@
 use Rattle.std.proofs.Common.{◌≤◌, ◌-◌}
 use Rattle.iiif_peer_wire.specs.Faults.{LeftAt}
-use Rattle.iiif_peer_server.proofs.ExchangeLemmas.{CameSo}
-use Rattle.iiif_peer_server.proofs.serve.serve_peer.Given as goal
+use Rattle.iiif_peer_wire.proofs.ExchangeLemmas.{CameSo}
+use Rattle.iiif_peer_wire.proofs.serve.serve_peer.Given as goal
 
 abbrev pub invariant-loop-peers : goal.invariant-loop-peers
 invariant-loop-peers g l =

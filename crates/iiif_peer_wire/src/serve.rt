@@ -6,11 +6,12 @@ ghost use Rattle.iiif_peer_wire.specs.Faults.{LeftAt};
 ghost use Rattle.iiif_peer_wire.specs.Messages.{IsAsk, IsReply};
 ghost use Rattle.iiif_peer_wire.specs.Reading.{IsInput};
 ghost use Rattle.iiif_peer_wire.specs.declared.version.Version.{Version};
-ghost use Rattle.iiif_peer_server.specs.Code.{Served};
-ghost use Rattle.iiif_peer_server.specs.Exchanges.{ask_limit, IsExchange};
+ghost use Rattle.iiif_peer_wire.specs.Serving.{Served};
+ghost use Rattle.iiif_peer_wire.specs.Exchanges.{ask_limit, IsExchange};
 
+use crate::ask::{Ask, read_ask};
+use crate::reply::write_reply;
 use iiif_io::{Inlet, Outlet};
-use iiif_peer_wire::{Ask, read_ask, write_reply};
 use std::alloc::Global;
 
 /// The most asks of one connection.

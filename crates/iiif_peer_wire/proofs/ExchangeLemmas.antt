@@ -10,9 +10,9 @@ use Rattle.iiif_peer_wire.specs.Reading.{ask_at, IsInput, IsUnfinishedAsk}
 use Rattle.iiif_peer_wire.specs.declared.fault.WireFault.{WireFault}
 use Rattle.iiif_peer_wire.specs.declared.fault.WireFault.TheVariants as fault
 use Rattle.iiif_peer_wire.specs.declared.version.Version.{Version}
-use Rattle.iiif_peer_server.specs.Code.{Answered, Served}
-use Rattle.iiif_peer_server.specs.Exchanges.{Answering, MayReply, Exchange, IsExchange, ask_limit, goes_on, limit, cut_off, ended, refused}
-use Rattle.iiif_peer_server.specs.Exchanges.{reader_failed, no_memory}
+use Rattle.iiif_peer_wire.specs.Serving.{Answered, Served}
+use Rattle.iiif_peer_wire.specs.Exchanges.{Answering, MayReply, Exchange, IsExchange, ask_limit, goes_on, limit, cut_off, ended, refused}
+use Rattle.iiif_peer_wire.specs.Exchanges.{reader_failed, no_memory}
 
 -- what a reader had, where so much of it was read and that is left
 consumed : (before after : Option (List ℕ)) (front later : List ℕ) → Consumes before after front → IsInput after later →

@@ -3,8 +3,8 @@ use Rattle.std.proofs.Common.{ap, Err, Ok, None, rules, nat_lt, arith}
 use Rattle.iiif_peer_wire.specs.declared.fault.WireFault.{WireFault}
 use Rattle.std.proofs.lemmas.Bool.{ltb-true, ltb-false}
 use Rattle.iiif_peer_wire.specs.Faults.{LeftAt}
-use Rattle.iiif_peer_server.proofs.ExchangeLemmas.{none_left, ends_at_fault, sent_whole, sent_partly}
-use Rattle.iiif_peer_server.proofs.serve.serve_next.Goals as goal
+use Rattle.iiif_peer_wire.proofs.ExchangeLemmas.{none_left, ends_at_fault, sent_whole, sent_partly}
+use Rattle.iiif_peer_wire.proofs.serve.serve_next.Goals as goal
 
 pub returns-in-Ok-None-clause-served : goal.returns-in-Ok-None-clause-served
 returns-in-Ok-None-clause-served g c =

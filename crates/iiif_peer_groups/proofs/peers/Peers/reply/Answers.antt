@@ -1,7 +1,7 @@
 use Rattle.std.proofs.Common.{◌≡◌, inl, inr, ⊎_elim}
 use Rattle.iiif_peer_groups.specs.Kinds.{sum_kind, system, tile_kind}
 use Rattle.iiif_peer_groups.proofs.Replied.{replied}
-use Rattle.iiif_peer_groups.proofs.peers.PeersAnswersPasses.answer.Goals as goal
+use Rattle.iiif_peer_groups.proofs.peers.Peers.reply.Goals as goal
 
 pub returns-then-ask-eq1-clause-allowed : goal.returns-then-ask-eq1-clause-allowed
 returns-then-ask-eq1-clause-allowed g c =

@@ -4,7 +4,7 @@ use Rattle.std.specs.Io.KnownBytes.{Consumes}
 use Rattle.iiif_peer_wire.specs.Messages.{ask_text, reply_text, IsAsk}
 use Rattle.iiif_peer_wire.specs.Reading.{IsInput}
 use Rattle.iiif_peer_wire.specs.declared.version.Version.{Version}
-use Rattle.iiif_peer_server.specs.Exchanges.{Answering, ask_limit, Exchange, MayReply}
+use Rattle.iiif_peer_wire.specs.Exchanges.{Answering, ask_limit, Exchange, MayReply}
 
 -- an ask that was read and answered whole. before, after: what the reader had and has left
 pub record Answered (answers : Answering) (n : ℕ) (before after : Option (List ℕ)) (text : List ℕ) : Type 0 where
