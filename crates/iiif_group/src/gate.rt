@@ -54,6 +54,22 @@ pub enum Step {
     Failed,
     /// A flight lands: its ending, the place for its value, and whether the value is kept.
     Landed(Ending, Place, bool),
+    /// A read of the source gave a value.
+    Read,
+    /// A read failed, at this place, for this cause.
+    Unread(u64, u8),
+    /// The node begins to serve another node's ask.
+    Served,
+    /// It replies, with this status.
+    Replied(u8),
+    /// A worker answers beside the pass of this number.
+    Worker(u64),
+    /// A target is asked for, whose bytes stand in the key's place.
+    Wanted,
+    /// Its answer ended, with this status of HTTP.
+    Ended(u16),
+    /// Its answer was cut off.
+    Cut,
 }
 
 /// Ending of a flight.

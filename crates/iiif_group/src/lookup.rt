@@ -435,13 +435,18 @@ impl<K: CacheKey, J: System, L: Ledger, N, T> Group<K, J, L, N, T> {
         ensures { ComesOf (settled_lead settled) (settled_outcome settled) result }
     {
         let lead = settled.lead();
-        let bytes = lead.key().bytes(self.alloc);
+        let (bytes, key) = (lead.key().bytes(self.alloc), lead.key().copy());
         let (class, rank, ticket) = (lead.class(), lead.key().rank(), lead.ticket());
         let (ending, place) = (ending_of(settled.outcome()), settled.place());
         let mut state = self.state.lock(rt);
         let landed = settled.land(&mut *state);
+        // A value that is put into the cache may be evicted at once.
+        let is_kept = match &key {
+            Ok(key) => landed.kept() && state.holds(key),
+            Err(_) => false,
+        };
         let note = Note {
-            step: Step::Landed(ending, place, landed.kept()),
+            step: Step::Landed(ending, place, is_kept),
             class,
             rank,
             pass: 0,

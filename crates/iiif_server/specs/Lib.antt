@@ -1,5 +1,5 @@
 pub mod Nodes
-pub mod Stocks
+pub mod GroupConfigs
 pub mod Code
 pub mod Asking
 pub mod Answering

@@ -6,7 +6,7 @@ use Rattle.iiif_source.specs.declared.Source as source
 use Rattle.iiif_tile_group.specs.Named.{gave_of, pictures_of, stable_of}
 use Rattle.iiif_peer_groups.specs.Kinds.{System, system}
 use Rattle.iiif_peer_groups.specs.Replying.{MayReply}
-use Rattle.iiif_peer_server.specs.Exchanges.{IsExchange}
+use Rattle.iiif_peer_wire.specs.Exchanges.{IsExchange}
 use Rattle.iiif_peer_wire.specs.Faults.{LeftAt}
 use Rattle.iiif_peer_wire.specs.Reading.{IsInput}
 use Rattle.iiif_peer_wire.specs.declared.version.Version.{Version}

@@ -12,9 +12,9 @@ ghost use Rattle.iiif_server.specs.Code.{HasImages};
 ghost use Rattle.iiif_server.specs.Nodes.{StandsFor};
 
 use crate::asking::{Asked, Host, Planned};
+use crate::group_config::GroupConfig;
 use crate::peak::Peak;
 use crate::room::Room;
-use crate::stock::Stock;
 use iiif_answers::accepted::Accepted;
 use iiif_answers::calls::{is_answered, part_of};
 use iiif_answers::images::{head_message, image_head, job_of, picture_is_shown};
@@ -34,8 +34,9 @@ use iiif_pixel::NoMemory;
 use iiif_request::Refusal;
 use iiif_source::Source;
 use iiif_sum_group::{
-    Gate, Groups, Handle, Link, NoGate, NoLink, Passes, SumCalls, TileCalls, Tiles,
+    Gate, Groups, Handle, Link, NoGate, NoLink, Note, Passes, Step, SumCalls, TileCalls, Tiles,
 };
+use iiif_tables::Class;
 use iiif_tile_group::{Catalogue, ImageEntry, Images};
 use std::alloc::{AllocError, Global};
 use std::marker::Model;
@@ -117,22 +118,22 @@ where
 }
 
 impl<R, S: Source<R> + Drop, J: System, N, T> Node<R, S, J, N, T> {
-    ghost use Rattle.iiif_server.specs.Stocks.{IsStock};
+    ghost use Rattle.iiif_server.specs.GroupConfigs.{IsGroupConfig};
 
     /// Makes a node of these images, where J says what their names stand for. The only error is lack of memory.
     pub fn new(
         alloc: Global,
         config: Config,
         catalogue: Catalogue<R, S>,
-        tiles: Stock<N, T>,
-        sums: Stock<N, T>,
+        tiles: GroupConfig<N, T>,
+        sums: GroupConfig<N, T>,
     ) -> Result<Self, NoMemory>
     where
         N: Drop,
         T: Drop,
         requires names { StandsFor J.System S.Source config.edge catalogue }
-        requires tiles { IsStock J.tiles_name J.tiles_parts tiles }
-        requires sums { IsStock J.sums_name J.sums_parts sums }
+        requires tiles { IsGroupConfig J.tiles_name J.tiles_parts tiles }
+        requires sums { IsGroupConfig J.sums_name J.sums_parts sums }
         ensures settings { IfOk result (λ n. n.settings ≡ config) }
         ensures items { IfOk result (λ n. n.items ≡ catalogue) }
     {
@@ -181,7 +182,7 @@ impl<R, S: Source<R> + Drop, J: System, N, T> Node<R, S, J, N, T> {
 }
 
 impl<R, S: Source<R> + Drop, J: System> Node<R, S, J, NoLink, NoGate> {
-    ghost use Rattle.iiif_server.specs.Stocks.{IsBlankOf};
+    ghost use Rattle.iiif_server.specs.GroupConfigs.{IsBlankOf};
 
     /// Makes a node that asks no other, whose groups have this room each. The only error is lack of memory.
     pub fn alone(
@@ -198,7 +199,37 @@ impl<R, S: Source<R> + Drop, J: System> Node<R, S, J, NoLink, NoGate> {
         ensures settings { IfOk result (λ n. n.settings ≡ config) }
         ensures items { IfOk result (λ n. n.items ≡ catalogue) }
     {
-        let (tiles, sums) = Stock::both_alone(alloc, room, tiles, sums)?;
+        Node::alone_by(
+            alloc,
+            config,
+            catalogue,
+            room,
+            (tiles, sums),
+            (NoGate, NoGate),
+        )
+    }
+}
+
+impl<R, S: Source<R> + Drop, J: System, T: Drop> Node<R, S, J, NoLink, T> {
+    ghost use Rattle.iiif_server.specs.GroupConfigs.{IsBlankOf};
+
+    /// Makes a node that asks no other, whose groups have this room each, and whose loads pass these gates. The blanks and the gates are
+    /// those of tiles and of sums. The only error is lack of memory.
+    pub fn alone_by(
+        alloc: Global,
+        config: Config,
+        catalogue: Catalogue<R, S>,
+        room: Room,
+        blanks: (Blank, Blank),
+        gates: (T, T),
+    ) -> Result<Self, NoMemory>
+        requires names { StandsFor J.System S.Source config.edge catalogue }
+        requires tiles { IsBlankOf J.tiles_name J.tiles_parts blanks.0 }
+        requires sums { IsBlankOf J.sums_name J.sums_parts blanks.1 }
+        ensures settings { IfOk result (λ n. n.settings ≡ config) }
+        ensures items { IfOk result (λ n. n.items ≡ catalogue) }
+    {
+        let (tiles, sums) = GroupConfig::both_alone(alloc, room, blanks, gates)?;
         Node::new(alloc, config, catalogue, tiles, sums)
     }
 }
@@ -208,10 +239,12 @@ impl<R: Wait, S: Source<R> + Drop, J: System, N, T> Node<R, S, J, N, T> {
     pub fn pass(&self, rt: &R) -> Option<Passes<J>> {
         let tiles = self.groups.tiles().group();
         let tile = tiles.pass(rt)?;
-        let Some(sum) = self.groups.sums().pass(rt) else {
+        let Some(mut sum) = self.groups.sums().pass(rt) else {
             tiles.give_back(rt, tile);
             return None;
         };
+        // Both bear one number, by which a record tells whose steps they count.
+        sum.id = tile.id;
         Some(Passes { tile, sum })
     }
 
@@ -353,8 +386,61 @@ impl<
         }
     }
 
-    /// Sends that part of the answer to a target.
+    /// Records a step of an answer.
+    fn note(&self, rt: &R, pass: u64, step: Step, target: &[u8]) {
+        let note = Note {
+            step,
+            class: Class::Local,
+            rank: 0,
+            pass,
+            ticket: 0,
+            key: target,
+        };
+        self.groups.sums().gate().note(rt, &note);
+    }
+
+    /// Records that a target is asked for, and by which passes its answer is made. Returns the number of the first of them.
+    fn note_want(&self, rt: &R, passes: &[Passes<J>], target: &[u8]) -> u64 {
+        let pass = match passes.first() {
+            Some(first) => first.tile.id,
+            None => 0,
+        };
+        for one in passes {
+            self.note(rt, pass, Step::Worker(one.tile.id), &[]);
+        }
+        self.note(rt, pass, Step::Wanted, target);
+        pass
+    }
+
+    /// Sends that part of the answer to a target, and records it, where steps are recorded.
     fn answer<W: Outlet>(
+        &self,
+        host: &Host<'_, R>,
+        passes: &mut [Passes<J>],
+        part: Part,
+        target: &[u8],
+        out: &mut W,
+    ) -> Result<Sent, Cut>
+        requires some { 0 < length passes.old }
+        ensures allowed { SendsForTarget S.Source J.honest self.now part target.now W.contents W.fails out.old out.new result }
+        ensures unasked { SparesForTarget S.Source J.honest self.now part target.now passes.old passes.new }
+    {
+        let is_head = matches!(part, Part::Head { .. });
+        if is_head || !self.groups.sums().gate().records() {
+            return self.send_target(host, passes, part, target, out);
+        }
+        let pass = self.note_want(host.rt, passes, target);
+        let sent = self.send_target(host, passes, part, target, out);
+        let step = match &sent {
+            Ok(sent) => Step::Ended(sent.status),
+            Err(_) => Step::Cut,
+        };
+        self.note(host.rt, pass, step, &[]);
+        sent
+    }
+
+    /// Sends that part of the answer to a target.
+    fn send_target<W: Outlet>(
         &self,
         host: &Host<'_, R>,
         passes: &mut [Passes<J>],

@@ -5,8 +5,8 @@ pub use groups::Groups;
 pub use handle::Handle;
 // Items of a group and of tiles that callers of the groups need.
 pub use iiif_group::{
-    Begun, Cluster, Gate, Group, Kept, Link, NoGate, NoLink, Note, Open, Passes, StripedCondvar,
-    SumCalls, TileCalls, take_outcome,
+    Begun, Cluster, Gate, Group, Kept, Link, NoGate, NoLink, Note, Open, Passes, Step,
+    StripedCondvar, SumCalls, TileCalls, take_outcome,
 };
 pub use iiif_tile_group::Tiles;
 pub use local_handle::LocalHandle;

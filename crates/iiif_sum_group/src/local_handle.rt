@@ -35,6 +35,11 @@ impl<'a, R, S: Source<R> + Drop, J: System, N, T> LocalHandle<'a, R, S, J, N, T>
     {
         self.groups.tiles().images().shape_of(key)
     }
+
+    /// Lends the gate of the sums' loads, which may record the steps of an ask.
+    pub fn gate(&self) -> &T {
+        self.groups.sums().gate()
+    }
 }
 
 impl<'a, R: Wait, S: Source<R> + Drop, J: System, N, T: Gate<R>> LocalHandle<'a, R, S, J, N, T> {

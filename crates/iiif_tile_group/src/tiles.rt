@@ -6,10 +6,11 @@ ghost use Rattle.iiif_tile_group.specs.Calls.{EndsWith, Gets, GetsLocal, KnowsTi
 ghost use Rattle.iiif_tile_group.specs.Views.{items_in, items_tiled};
 
 use crate::images::Images;
-use iiif_group::{Begun, Gate, Group, Link, Open, TileCalls, share};
-use iiif_keys::{Fault, System, TileKey, TileVal};
+use iiif_group::{Begun, Gate, Group, Link, Note, Open, Step, TileCalls, share};
+use iiif_keys::{CacheKey, Fault, System, TileKey, TileVal};
 use iiif_singleflight::{Pass, Receipt};
 use iiif_source::Source;
+use iiif_tables::Class;
 use std::alloc::Global;
 use std::sync::ledger::Ledger;
 use std::sync::{Arc, Wait};
@@ -57,15 +58,21 @@ impl<R, S: Source<R> + Drop, J: System, N, T> Tiles<R, S, J, N, T> {
     /// Loads a tile: finds its image and reads it from the source. A call that leads a flight runs this; here it neither enters the group
     /// nor is kept.
     pub fn load(&self, rt: &R, key: &TileKey) -> Result<TileVal, Fault>
+    where
+        T: Gate<R>,
         ensures { Loads J.System key.now result }
     {
         let (entry, shape) = self.images.image_of(key)?;
-        self.images.read_tile(rt, entry, &shape, key)
+        let value = self.images.read_tile(rt, entry, &shape, key);
+        self.note_read(rt, key, &value);
+        value
     }
 
     /// Loads a tile for all that wait.
     #[tactic(auto, using(crate::proofs::FaultLemmas::given_of_load))]
     fn load_outcome(&self, rt: &R, key: &TileKey) -> Result<Arc<TileVal>, Fault>
+    where
+        T: Gate<R>,
         requires names { NamesTile J.System key.now }
         ensures { EndsWith J.System key.now result }
     {
@@ -90,6 +97,33 @@ impl<R: Wait, S: Source<R> + Drop, J: System, N, T: Gate<R>> Tiles<R, S, J, N, T
     {
         let outcome = self.load_outcome(rt, key);
         self.group.complete(rt, load, outcome).receipt
+    }
+}
+
+impl<R, S: Source<R> + Drop, J: System, N, T: Gate<R>> Tiles<R, S, J, N, T> {
+    /// Records a read.
+    fn note_read(&self, rt: &R, key: &TileKey, value: &Result<TileVal, Fault>) {
+        let gate = self.group.gate();
+        if !gate.records() {
+            return;
+        }
+        let step = match value {
+            Ok(_) => Step::Read,
+            Err(Fault::Source(fault)) => Step::Unread(fault.place, fault.cause),
+            Err(_) => return,
+        };
+        let Ok(bytes) = key.bytes(self.alloc) else {
+            return;
+        };
+        let note = Note {
+            step,
+            class: Class::Local,
+            rank: 0,
+            pass: 0,
+            ticket: 0,
+            key: &bytes,
+        };
+        gate.note(rt, &note);
     }
 }
 

@@ -1,6 +1,8 @@
 //! Acts of threads at once. Each is a value of a type of its own.
 
-use iiif_listener::{Admission, Serve, serve_listener};
+use crate::fixtures::listeners::serve_listener;
+use crate::fixtures::listeners::Serve;
+use iiif_listener::{Admission, Refused};
 use std::alloc::Global;
 use std::net::TcpListener;
 use std::sync::Wait;
@@ -83,7 +85,7 @@ pub(crate) fn served_beside<R, D, A>(
 ) -> A::Came
 where
     R: Threads + Wait + Clock + Sync,
-    D: Serve<R> + Sync,
+    D: Serve<R> + Refused<R> + Sync,
     A: Act<R> + Sync,
     A::Came: Send + Drop,
 {

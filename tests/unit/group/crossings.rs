@@ -12,9 +12,10 @@ use crate::group::peers::LIMIT;
 use crate::group::scenes::{ODD, QUIET, Seen};
 use iiif_io::fakes::FailingReader;
 use iiif_keys::{Fault, System};
-use iiif_listener::{Serve, Visit};
+use crate::fixtures::listeners::Serve;
+use iiif_listener::{Arrival, Door as Name, Refused, Visit};
 use iiif_peer_groups::Peers;
-use iiif_peer_server::serve_peer;
+use iiif_peer_wire::serve_peer;
 use iiif_source::Source;
 use iiif_sum_group::{Handle, Passes, SumCalls, TileCalls};
 use std::alloc::Global;
@@ -45,16 +46,25 @@ where
     node: &'a Node<'b, R, J>,
 }
 
+impl<'a, 'b, R: Net<Stream = TcpStream> + Wait + Clock, J: System> Refused<R>
+    for Door<'a, 'b, R, J>
+{
+    fn report_refused(&self, _rt: &R, _door: Name) {}
+}
+
 impl<'a, 'b, R: Net<Stream = TcpStream> + Wait + Clock, J: System> Serve<R> for Door<'a, 'b, R, J> {
-    fn serve(&self, rt: &R, alloc: Global, visit: Visit<'_, R>) {
+    fn serve<'p>(
+        &self,
+        rt: &'p R,
+        alloc: Global,
+        arrival: Arrival<'p, R>,
+    ) -> Option<Arrival<'p, R>> {
         let Visit {
             mut stream,
             place: _place,
-        } = visit;
+        } = arrival.visit;
         let _ = stream.set_read_timeout(Some(Duration::from_millis(LIMIT)));
-        let Some(mut passes) = passes(rt, self.node) else {
-            return;
-        };
+        let mut passes = passes(rt, self.node)?;
         if let Ok(mut out) = stream.try_clone() {
             let peers = Peers {
                 groups: Handle::new(self.node).local(),
@@ -64,6 +74,7 @@ impl<'a, 'b, R: Net<Stream = TcpStream> + Wait + Clock, J: System> Serve<R> for 
         let Passes { tile, sum } = passes;
         self.node.tiles().group().give_back(rt, tile);
         self.node.sums().give_back(rt, sum);
+        None
     }
 }
 

@@ -1,7 +1,7 @@
 //! A gate at which loads meet, and groups with that gate.
 
 use iiif_ring::Ring;
-use iiif_server::{Gate, NoLink, Note, Room, Stock};
+use iiif_server::{Gate, GroupConfig, NoLink, Note, Room};
 use std::alloc::Global;
 use std::num::NonZeroUsize;
 use std::sync::atomic::{AtomicBool, Ordering};
@@ -55,20 +55,20 @@ impl<R: Clock> Gate<R> for Meeting {
     fn note(&self, _rt: &R, _note: &Note<'_>) {}
 }
 
-/// The parts of a group that has room for so many bytes, and whose loads pass this gate.
-pub(crate) fn stock<'a>(
+/// Makes the settings of a group that has room for so many bytes, and whose loads pass this gate.
+pub(crate) fn group_config<'a>(
     alloc: Global,
     bytes: u64,
     gate: &'a Meeting,
     blank: Blank,
-) -> Option<Stock<NoLink, &'a Meeting>> {
+) -> Option<GroupConfig<NoLink, &'a Meeting>> {
     let entries = NonZeroUsize::new(1024)?;
     let mut names = Vec::new(alloc);
     names.push(String::from_str(alloc, "n").ok()?).ok()?;
     let ring = Ring::new(alloc, names).ok()?;
     let mut links = Vec::new(alloc);
     links.push(NoLink).ok()?;
-    Some(Stock {
+    Some(GroupConfig {
         room: Room {
             bytes: bytes.min(67_108_864),
             entries,

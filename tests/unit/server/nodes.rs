@@ -5,11 +5,11 @@ use crate::server::calls::is_right;
 use crate::server::cases::{Case, Setup, Table, Variant};
 use crate::server::every::{Pictured, asks};
 use crate::server::faulty::{Faulty, Reads};
-use crate::server::meeting::{Meeting, stock};
+use crate::server::meeting::{Meeting, group_config};
 use crate::server::told::Told;
 use iiif_canonical::Limits;
 use iiif_keys::{PARTS, System};
-use iiif_server::{Catalogue, Config, NoLink, Node, Stock};
+use iiif_server::{Catalogue, Config, GroupConfig, NoLink, Node};
 use iiif_source::MemSource;
 use iiif_tiff_read::open;
 use std::alloc::Global;
@@ -101,8 +101,8 @@ fn right_by<R: Threads + Wait + Clock + Sync, J: System + Send + Sync>(
     alloc: Global,
     config: Config,
     images: Catalogue<R, Faulty<'_>>,
-    tiles: Stock<NoLink, &Meeting>,
-    sums: Stock<NoLink, &Meeting>,
+    tiles: GroupConfig<NoLink, &Meeting>,
+    sums: GroupConfig<NoLink, &Meeting>,
     workers: u32,
     seen: &Seen,
     cases: &[Case<'_>],
@@ -123,8 +123,8 @@ fn right_of<R: Threads + Wait + Clock + Sync>(
 ) -> Option<usize> {
     let config = settings(alloc, setup)?;
     let images = images(rt, alloc, setup, &seen.reads)?;
-    let tiles = stock(alloc, setup.bytes, &seen.gate, Blank::new(PARTS))?;
-    let sums = stock(alloc, setup.bytes, &seen.open, Blank::new(PARTS))?;
+    let tiles = group_config(alloc, setup.bytes, &seen.gate, Blank::new(PARTS))?;
+    let sums = group_config(alloc, setup.bytes, &seen.open, Blank::new(PARTS))?;
     right_by::<R, Brand>(
         rt,
         alloc,

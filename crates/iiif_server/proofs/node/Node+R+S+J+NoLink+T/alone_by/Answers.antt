@@ -1,4 +1,4 @@
-use Rattle.iiif_server.proofs.node.Node+R+S+J+NoLink+NoGate.alone.Goals as goal
+use Rattle.iiif_server.proofs.node.Node+R+S+J+NoLink+T.alone_by.Goals as goal
 
 pub new-requires-clause-tiles : goal.new-requires-clause-tiles
 new-requires-clause-tiles g c =

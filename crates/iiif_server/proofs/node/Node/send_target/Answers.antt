@@ -7,7 +7,7 @@ use Rattle.iiif_server.specs.Code.{ReachesImageOf}
 use Rattle.iiif_answers.specs.Outcomes.{given_of}
 use Rattle.iiif_answers.proofs.AllowedLemmas.{message_allowed, sent_more}
 use Rattle.iiif_server.specs.Nodes.{Service}
-use Rattle.iiif_server.proofs.node.Node.answer.Goals as goal
+use Rattle.iiif_server.proofs.node.Node.send_target.Goals as goal
 
 pub returns-in-Image-clause-allowed : goal.returns-in-Image-clause-allowed
 returns-in-Image-clause-allowed g c =

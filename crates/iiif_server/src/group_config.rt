@@ -1,13 +1,13 @@
 //! Settings of a node's groups.
 
 ghost use Rattle.std.specs.Prelude.{◌≡◌, IfOk, length};
-ghost use Rattle.iiif_server.specs.Stocks.{HasStock, HasStocks, IsStock};
+ghost use Rattle.iiif_server.specs.GroupConfigs.{HasGroupConfig, HasGroupConfigs, IsGroupConfig};
 
 use crate::room::Room;
 use iiif_keys::{CacheKey, System};
 use iiif_pixel::NoMemory;
 use iiif_ring::Ring;
-use iiif_sum_group::{Cluster, Group, NoGate, NoLink};
+use iiif_sum_group::{Cluster, Group, NoLink};
 use std::alloc::{AllocError, Global};
 use std::sync::ledger::{Blank, Ledger};
 
@@ -16,7 +16,7 @@ const OWN_NAME: &str = "self";
 
 /// Settings of a group of a node: its room, its way to other nodes, and the ledger of its calls.
 #[derive(Drop)]
-pub struct Stock<N, T> {
+pub struct GroupConfig<N, T> {
     /// The room of its cache.
     pub room: Room,
     /// The gate that each load passes.
@@ -29,13 +29,13 @@ pub struct Stock<N, T> {
     pub blank: Blank,
 }
 
-impl<N: Drop, T: Drop> Stock<N, T> {
+impl<N: Drop, T: Drop> GroupConfig<N, T> {
     /// Makes the group. The only error is lack of memory.
     pub(crate) fn group<K: CacheKey, J: System, L: Ledger>(
         self,
         alloc: Global,
     ) -> Result<Group<K, J, L, N, T>, NoMemory>
-        requires { IsStock L.name L.parts self }
+        requires { IsGroupConfig L.name L.parts self }
     {
         let cluster = Cluster {
             ring: self.ring,
@@ -59,18 +59,20 @@ fn own_ring(alloc: Global) -> Result<Ring, NoMemory>
     }
 }
 
-impl Stock<NoLink, NoGate> {
-    /// Makes the settings for a node that has no others beside it, with this room. The only error is lack of memory.
-    pub fn alone(alloc: Global, room: Room, blank: Blank) -> Result<Self, NoMemory>
-        ensures stock { HasStock blank (λ stock. stock) result }
-        ensures room { IfOk result (λ stock. stock.room ≡ room) }
+impl<T: Drop> GroupConfig<NoLink, T> {
+    /// Makes the settings for a node that has no others beside it, with this room, whose loads pass this gate. The only error is lack of
+    /// memory.
+    pub fn alone(alloc: Global, room: Room, blank: Blank, gate: T) -> Result<Self, NoMemory>
+        ensures config { HasGroupConfig blank (λ config. config) result }
+        ensures room { IfOk result (λ config. config.room ≡ room) }
+        ensures gate { IfOk result (λ config. config.gate ≡ gate) }
     {
         let ring = own_ring(alloc)?;
         let mut links = Vec::new(alloc);
         links.push(NoLink)?;
-        Ok(Stock {
+        Ok(GroupConfig {
             room,
-            gate: NoGate,
+            gate,
             ring,
             own: Some(0),
             links,
@@ -82,13 +84,13 @@ impl Stock<NoLink, NoGate> {
     pub(crate) fn both_alone(
         alloc: Global,
         room: Room,
-        tiles: Blank,
-        sums: Blank,
+        blanks: (Blank, Blank),
+        gates: (T, T),
     ) -> Result<(Self, Self), NoMemory>
-        ensures { HasStocks tiles sums result }
+        ensures { HasGroupConfigs blanks.0 blanks.1 result }
     {
-        let tiles = Stock::alone(alloc, room.again(), tiles)?;
-        let sums = Stock::alone(alloc, room, sums)?;
+        let tiles = GroupConfig::alone(alloc, room.again(), blanks.0, gates.0)?;
+        let sums = GroupConfig::alone(alloc, room, blanks.1, gates.1)?;
         Ok((tiles, sums))
     }
 }
