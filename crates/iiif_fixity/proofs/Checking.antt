@@ -1,4 +1,4 @@
--- What a checked read gives.
+-- Checked reads.
 use Rattle.std.proofs.Common.{◌≡◌, ℕ, zero, suc, ◌+◌, ◌*◌, ◌-◌, ◌<◌, ◌≤◌, ◌||◌, ◌==◌, min, Bool, IsTrue, List, ◌++◌, length, Some, get_or}
 use Rattle.std.proofs.Common.{take, drop, ap, ◌∙◌, sym, inl, inr, arith, subst, ◌/◌, ◌%◌}
 use Rattle.std.proofs.lemmas.Bool.{cases_lt, or_left, or_right}

@@ -1,4 +1,5 @@
 pub mod Checking
+pub mod Feeding
 pub mod Folders
 pub mod Lawful
 pub mod Lines

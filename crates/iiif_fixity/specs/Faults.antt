@@ -9,3 +9,9 @@ abbrev pub IsHoldFault : (ReadFault → Bool) → HoldFault → Type 0
 IsHoldFault gave (Read fault) = IsTrue (gave fault)
 IsHoldFault gave Differs = Unit {0}
 IsHoldFault gave NoMemory = Unit {0}
+
+-- the same of reads that compare nothing
+abbrev pub IsReadingFault : (ReadFault → Bool) → HoldFault → Type 0
+IsReadingFault gave (Read fault) = IsTrue (gave fault)
+IsReadingFault gave Differs = ⊥
+IsReadingFault gave NoMemory = Unit {0}

@@ -1,4 +1,4 @@
--- What holds of all digests and lists of them.
+-- Laws of digests and of lists of them.
 use Rattle.std.specs.Prelude.{◌≡◌, ◌⊎◌, ℕ, ◌*◌, ◌<◌, List, length, Some}
 use Rattle.sha2.specs.Sha256.{sha256}
 use Rattle.iiif_fixity.specs.Collisions.{Collide}

@@ -4,3 +4,4 @@ pub mod Faults
 pub mod Laws
 pub mod Manifests
 pub mod Pieces
+pub mod Reads

@@ -22,7 +22,7 @@ listed digests i = slice_get digests i
 abbrev pub IsListOf : ℕ → List (List ℕ) → List ℕ → Type 0
 IsListOf size digests bytes = (i : ℕ) → i * size < length bytes → listed digests i ≡ Some (sha256 (piece_of size i bytes))
 
--- What a read gave for a piece of these bytes, of the piece's length and with its digest, is the piece.
+-- A piece that a read gave of these bytes, of its length and with its digest, is theirs.
 abbrev pub NoneCollides : (ℕ → List ℕ → Type 0) → ℕ → List ℕ → Type 0
 NoneCollides reads size bytes = (i : ℕ) (found : List ℕ) → i * size < length bytes → reads (i * size) found
     → length found ≡ length (piece_of size i bytes) → sha256 found ≡ sha256 (piece_of size i bytes) → found ≡ piece_of size i bytes

@@ -1,4 +1,4 @@
-//! What may be wrong with a manifest.
+//! Faults of manifests.
 
 use thiserror::Error;
 

@@ -1,4 +1,4 @@
-//! What holds of all digests and lists of them. The functions compute nothing: their contracts are the laws.
+//! Laws of digests and of lists of them. The functions compute nothing: their contracts are the laws.
 
 ghost use Rattle.std.specs.Prelude.{◌≡◌, ℕ, List, length, take, drop};
 ghost use Rattle.iiif_fixity.specs.Laws.{PieceOrCollide, SameListOrCollide, SameOrCollide};

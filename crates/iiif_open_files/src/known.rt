@@ -10,7 +10,7 @@ use std::io;
 use std::os::unix::fs::MetadataExt;
 use std::time::{SystemTime, UNIX_EPOCH};
 
-/// What is remembered of a file: the device and the node that it is, when it was made, when its bytes were last changed, and how many they
+/// Identity of a file: the device and the node that it is, when it was made, when its bytes were last changed, and how many they
 /// are. A system may give the node of a file that was removed to the next one that is made, so the node alone doesn't tell them apart.
 #[derive(Clone, Copy, Debug, PartialEq, Eq)]
 pub struct Known {
@@ -36,8 +36,8 @@ fn nanos(moment: io::Result<SystemTime>) -> u64 {
 }
 
 impl Known {
-    /// What the system says of a file.
-    pub fn of(file: &Metadata) -> Known
+    /// Makes the identity of the system's metadata of a file.
+    pub fn new(file: &Metadata) -> Known
         ensures { result.len ≡ metadata_len file.now }
     {
         Known {

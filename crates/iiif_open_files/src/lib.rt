@@ -3,25 +3,25 @@
 //! each row is read at once and kept for what is asked for beside them.
 #![tactic(auto)]
 
+pub use file_cache::{FileCache, Opening};
 pub use iiif_source::Opens;
 pub use known::Known;
 pub use mem_file::{Contents, MemFile};
 pub use mem_files::{Failing, MemFiles};
 pub use open_files::OpenFiles;
 pub use path_source::PathSource;
-pub use row_shelf::RowShelf;
-pub use shelf::{Opening, Shelf};
+pub use row_cache::RowCache;
 pub use texts::Texts;
 pub use wide_rows::WideRows;
 pub use widening::wider;
 
+pub mod file_cache;
 pub mod known;
 pub mod mem_file;
 pub mod mem_files;
 pub mod open_files;
 pub mod path_source;
-pub mod row_shelf;
-pub mod shelf;
+pub mod row_cache;
 pub mod texts;
 pub mod wide_rows;
 pub mod widening;

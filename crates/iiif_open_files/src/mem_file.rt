@@ -5,9 +5,9 @@ ghost use Rattle.iiif_open_files.specs.Memory.{as_bytes};
 
 use std::marker::{Brand, PhantomData};
 
-/// What the files of a memory hold. A call picks it.
+/// Contents of the files of a memory. A call picks them.
 pub trait Contents {
-    /// What the file of a path holds.
+    /// The content of the file of a path.
     ghost content: { List ℕ → List ℕ };
 }
 

@@ -7,8 +7,8 @@ ghost use Rattle.iiif_source.specs.Runs.{AreIn, BeginsAt, HoldsRuns};
 ghost use Rattle.iiif_open_files.specs.Kept.{size_of};
 ghost use Rattle.iiif_open_files.specs.Rows.{room_of, AreAmong};
 
-use crate::row_shelf::RowShelf;
-use crate::shelf::{Opening, Shelf};
+use crate::file_cache::{FileCache, Opening};
+use crate::row_cache::RowCache;
 use crate::wide_rows::WideRows;
 use crate::widening::FEW;
 use iiif_source::{Opens, ReadFault, Runs};
@@ -17,14 +17,14 @@ use std::num::NonZeroUsize;
 use std::sync::atomic::{AtomicU64, Ordering};
 use std::sync::{Arc, Mutex, Wait};
 
-/// The files that the sources of one program keep open between their reads, as many as a [`Shelf`] has room for. No lock is held
+/// The files that the sources of one program keep open between their reads, as many as a [`FileCache`] has room for. No lock is held
 /// while a file is opened or read. So the files that are open at once are those that are kept, and one for each read that goes on.
 /// Beside them stand the rows that were read ahead: at most 16 times many rows, and 256 times few.
 #[derive(Drop)]
 pub struct OpenFiles<R: Opens> {
-    shelf: Mutex<Shelf<R>>,
-    many: Mutex<RowShelf<R, 16, 1_048_576>>,
-    few: Mutex<RowShelf<R, 256, 65_536>>,
+    files: Mutex<FileCache<R>>,
+    many: Mutex<RowCache<R, 16, 1_048_576>>,
+    few: Mutex<RowCache<R, 256, 65_536>>,
     numbers: AtomicU64,
     alloc: Global,
 }
@@ -33,9 +33,9 @@ impl<R: Opens> OpenFiles<R> {
     /// No file is open, and so many are kept.
     pub fn new(alloc: Global, most: NonZeroUsize) -> Result<OpenFiles<R>, AllocError> {
         Ok(OpenFiles {
-            shelf: Mutex::new(Shelf::new(alloc, most)?),
-            many: Mutex::new(RowShelf::new(alloc)),
-            few: Mutex::new(RowShelf::new(alloc)),
+            files: Mutex::new(FileCache::new(alloc, most)?),
+            many: Mutex::new(RowCache::new(alloc)),
+            few: Mutex::new(RowCache::new(alloc)),
             numbers: AtomicU64::new(0),
             alloc,
         })
@@ -57,14 +57,14 @@ impl<R: Opens> OpenFiles<R> {
 impl<R: Opens + Wait> OpenFiles<R> {
     /// How many files are kept open now.
     pub fn kept(&self, rt: &R) -> usize {
-        self.shelf.lock(rt).len()
+        self.files.lock(rt).len()
     }
 
     /// The open file of a source's number, where it is kept and was opened under the path.
     pub(crate) fn find(&self, rt: &R, number: u64, path: &str) -> Option<Arc<Opening<R>>>
         ensures { IfSome result (λ o. string_bytes (arc_value (arc_value o).file.path) ≡ path.now) }
     {
-        let opening = self.shelf.lock(rt).find(number)?;
+        let opening = self.files.lock(rt).find(number)?;
         if opening.file.path.as_str() == path {
             Some(opening)
         } else {
@@ -75,7 +75,7 @@ impl<R: Opens + Wait> OpenFiles<R> {
     /// Keeps the open file of a source's number. It is closed where memory runs out.
     pub(crate) fn keep(&self, rt: &R, number: u64, file: Opening<R>) {
         if let Ok(file) = Arc::new(self.alloc, file) {
-            self.shelf.lock(rt).keep(number, file);
+            self.files.lock(rt).keep(number, file);
         }
     }
 
@@ -144,10 +144,10 @@ impl<R: Opens + Wait> OpenFiles<R> {
     }
 }
 
-/// Rows on a shelf that are of an opening and have these runs.
+/// Finds rows of a cache that are of an opening and have these runs.
 fn find_in<R: Opens + Wait, const MOST: usize, const ROOM: usize>(
     rt: &R,
-    shelf: &Mutex<RowShelf<R, MOST, ROOM>>,
+    rows: &Mutex<RowCache<R, MOST, ROOM>>,
     opening: &Opening<R>,
     runs: Runs,
 ) -> Option<Arc<WideRows<R>>>
@@ -156,5 +156,5 @@ fn find_in<R: Opens + Wait, const MOST: usize, const ROOM: usize>(
     ensures among { IfSome result (λ w. AreAmong (arc_value w).runs runs) }
 {
     let path = opening.file.path.as_str();
-    shelf.lock(rt).find(path, opening.number, runs)
+    rows.lock(rt).find(path, opening.number, runs)
 }

@@ -7,9 +7,9 @@ ghost use Rattle.iiif_source.specs.Cause.{failed, ended, gave_of};
 ghost use Rattle.iiif_source.specs.Files.{fitted, Named, Says};
 ghost use Rattle.iiif_source.specs.Runs.{AreIn, BeginsAt, HoldsRuns};
 
+use crate::file_cache::Opening;
 use crate::known::Known;
 use crate::open_files::OpenFiles;
-use crate::shelf::Opening;
 use iiif_source::{OpenFile, Opened, Opens, ReadFault, Runs, Source};
 use std::io;
 use std::marker::Model;
@@ -41,7 +41,7 @@ impl<R: Opens + Wait> PathSource<R> {
     {
         let path = files.share_path(path)?;
         let file = OpenFile::open(rt, path.clone()?)?;
-        let known = Known::of(&file.metadata(rt)?);
+        let known = Known::new(&file.metadata(rt)?);
         let opening = Opening {
             number: files.take_number(),
             file,
@@ -79,7 +79,7 @@ impl<R: Opens + Wait> PathSource<R> {
         let Ok(now) = file.metadata(rt) else {
             return Err(ReadFault::FAILED);
         };
-        match self.known.change(&Known::of(&now)) {
+        match self.known.change(&Known::new(&now)) {
             None => Ok(Opening {
                 number: self.files.take_number(),
                 file,
@@ -96,7 +96,7 @@ impl<R: Opens + Wait> PathSource<R> {
         ensures cause { IfErr result (λ f. IsTrue (f.cause == failed || f.cause == ended)) }
     {
         let cause = match opening.file.metadata(rt) {
-            Ok(now) => self.known.change(&Known::of(&now)),
+            Ok(now) => self.known.change(&Known::new(&now)),
             Err(_) => Some(ReadFault::FAILED),
         };
         let Some(cause) = cause else {

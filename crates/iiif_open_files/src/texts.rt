@@ -12,6 +12,9 @@ pub trait Texts {
     /// All bytes of a file of any kind: a list of images may come out of a pipe. Nothing is promised of them.
     fn text(&self, alloc: Global, path: &str) -> io::Result<Vec<u8>>;
 
+    /// An empty file, to be written.
+    fn create(&self, path: &str) -> io::Result<File>;
+
     /// The names of what stands in a folder, in any order, but for `.` and `..`. A name that isn't UTF-8 is an error of the kind
     /// `InvalidFilename`. Nothing is promised of them.
     fn names(&self, alloc: Global, folder: &str) -> io::Result<Vec<String>>;
@@ -22,6 +25,10 @@ impl<R: Files<File = File> + AllocGlobal + Clone + Drop> Texts for R {
         let mut text = Vec::new(alloc);
         fs::open(self, path)?.read_to_end(&mut text)?;
         Ok(text)
+    }
+
+    fn create(&self, path: &str) -> io::Result<File> {
+        fs::create(self, path)
     }
 
     fn names(&self, alloc: Global, folder: &str) -> io::Result<Vec<String>> {

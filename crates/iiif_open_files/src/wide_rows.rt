@@ -7,7 +7,7 @@ ghost use Rattle.iiif_source.specs.Files.{fitted};
 ghost use Rattle.iiif_source.specs.Runs.{AreIn, BeginsAt, HoldsRuns};
 ghost use Rattle.iiif_open_files.specs.Rows.{AreAmong, room_of};
 
-use crate::shelf::Opening;
+use crate::file_cache::Opening;
 use crate::widening::wider;
 use iiif_source::{MemSource, Opened, Opens, ReadFault, Runs, Source};
 use std::alloc::Global;

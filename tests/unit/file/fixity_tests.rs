@@ -4,9 +4,10 @@
 use crate::fixtures::{is_missing, is_same, is_unwanted, note};
 use hex::FromHex;
 use iiif_fixity::{
-    Bag, CheckedSource, EntryFault, HoldFault, Manifest, ManifestFault, PieceDigests, folder_of, hold,
+    Bag, CheckedSource, EntryFault, HoldFault, Manifest, ManifestFault, PieceDigests, compare,
+    digest_whole, folder_of, hold,
 };
-use iiif_source::{MemSource, ReadFault, Runs, Source};
+use iiif_source::{FuseSource, MemSource, ReadFault, Runs, Source};
 use sha2::{Digest, Sha256};
 use std::alloc::{AllocError, Global};
 use std::marker::Model;
@@ -73,6 +74,48 @@ fn files_with_their_digests_are_held(rt: HostRuntime) -> Result<(), Fail> {
         assert!(rt; holds(rt.alloc(), &source, digest, Ok(len)), "{row}");
         let (_, other) = &DIGESTS[(row + 1) % DIGESTS.len()];
         assert!(rt; holds(rt.alloc(), &source, other, Err(HoldFault::Differs)), "{row}");
+    }
+    Ok(())
+}
+
+/// Compares a source with a digest, and compares what came of it.
+fn compares(alloc: Global, source: &MemSource, digest: &str, want: Result<(), HoldFault>) -> bool {
+    let Ok(digest) = <[u8; 32] as FromHex>::from_hex(digest) else {
+        return is_missing();
+    };
+    is_same(&compare(&(), alloc, source, &digest), &want)
+}
+
+#[test]
+fn files_that_arent_held_have_their_digests(rt: HostRuntime) -> Result<(), Fail> {
+    for (row, (bytes, digest)) in DIGESTS.iter().enumerate() {
+        let source = source_of(rt.alloc(), *bytes)?;
+        assert!(rt; compares(rt.alloc(), &source, digest, Ok(())), "{row}");
+        let (_, other) = &DIGESTS[(row + 1) % DIGESTS.len()];
+        assert!(rt; compares(rt.alloc(), &source, other, Err(HoldFault::Differs)), "{row}");
+    }
+    Ok(())
+}
+
+/// A file of 1,000,000 bytes is read in 16 steps: the last read that fails is the sixteenth.
+#[test]
+fn a_read_that_fails_is_the_fault_of_a_digest(rt: HostRuntime) -> Result<(), Fail> {
+    for first_failing in 1..18 {
+        let source = source_of(rt.alloc(), Bytes::Many(b'a', 1_000_000))?;
+        let source = FuseSource::new(source, first_failing);
+        let got = match digest_whole(&(), rt.alloc(), &source) {
+            Ok(_) => Ok(()),
+            Err(fault) => Err(fault),
+        };
+        let want = if first_failing > 16 {
+            Ok(())
+        } else {
+            Err(HoldFault::Read(ReadFault {
+                place: (first_failing - 1) * 65_536,
+                cause: ReadFault::FUSE,
+            }))
+        };
+        assert!(rt; is_same(&got, &want), "{first_failing}");
     }
     Ok(())
 }

@@ -331,9 +331,9 @@ fn files_are_known_by_device_node_and_moments(rt: HostRuntime) -> Result<(), Fai
     fs::write(&rt, "known_one", &[1])?;
     fs::write(&rt, "known_two", &[1])?;
     let told = fs::metadata(&rt, "known_one")?;
-    let one = Known::of(&told);
-    let two = Known::of(&fs::metadata(&rt, "known_two")?);
-    let null = Known::of(&fs::metadata(&rt, "/dev/null")?);
+    let one = Known::new(&told);
+    let two = Known::new(&fs::metadata(&rt, "known_two")?);
+    let null = Known::new(&fs::metadata(&rt, "/dev/null")?);
     fs::remove_file(&rt, "known_one")?;
     fs::remove_file(&rt, "known_two")?;
     assert!(rt;

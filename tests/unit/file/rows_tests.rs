@@ -4,7 +4,7 @@ use crate::file::steps::{
     Ask, Bytes, Change, Outcome, Place, Shared, Step, bytes_of, fit, is_answered, open, open_files, run, write_over,
 };
 use crate::fixtures::is_same;
-use iiif_open_files::{Opening, Opens, RowShelf, WideRows, wider};
+use iiif_open_files::{Opening, Opens, RowCache, WideRows, wider};
 use iiif_source::{OpenFile, ReadFault, Runs, Source};
 use std::alloc::Global;
 use std::fs;
@@ -275,17 +275,17 @@ fn small_rows<R: Opens>(
         return Err(Fail::from("no rows"));
     };
     if Source::<R>::len(&rows.bytes) > 65_536 {
-        return Err(Fail::from("more rows than a shelf has room for"));
+        return Err(Fail::from("more rows than a cache has room for"));
     }
     Ok(Arc::new(alloc, rows)?)
 }
 
-/// A call of a shelf, and what is to come of it.
+/// A call of a cache, and what is to come of it.
 #[derive(Clone, Copy)]
-enum Shelved {
+enum CacheCall {
     /// Rows of the openings from a number to another are kept, one after another.
     Keep(u64, u64),
-    /// The shelf has the rows of the opening of a number, or not.
+    /// The cache has the rows of the opening of a number, or not.
     Has(u64, bool),
     /// It has none of another file, though the opening has this number.
     HasNoOther(u64),
@@ -294,43 +294,43 @@ enum Shelved {
     Len(usize),
 }
 
-static SHELVED: [Shelved; 13] = [
-    Shelved::Keep(0, 16),
-    Shelved::HasNoOther(0),
-    Shelved::Len(16),
-    Shelved::Has(0, true),
-    Shelved::Keep(16, 17),
-    Shelved::Has(0, true),
-    Shelved::Has(1, false),
-    Shelved::Has(2, true),
-    Shelved::Has(16, true),
-    Shelved::Forget(0),
-    Shelved::Len(15),
-    Shelved::Has(0, false),
-    Shelved::Has(2, true),
+static CACHE_CALLS: [CacheCall; 13] = [
+    CacheCall::Keep(0, 16),
+    CacheCall::HasNoOther(0),
+    CacheCall::Len(16),
+    CacheCall::Has(0, true),
+    CacheCall::Keep(16, 17),
+    CacheCall::Has(0, true),
+    CacheCall::Has(1, false),
+    CacheCall::Has(2, true),
+    CacheCall::Has(16, true),
+    CacheCall::Forget(0),
+    CacheCall::Len(15),
+    CacheCall::Has(0, false),
+    CacheCall::Has(2, true),
 ];
 
-/// Whether a call of a shelf, of rows of a file, comes to what it is to.
-fn is_shelved<R: Opens>(
+/// Whether a call of a cache, of rows of a file, comes to what it is to.
+fn answers_as<R: Opens>(
     rt: &R,
     alloc: Global,
     path: &str,
-    shelf: &mut RowShelf<R, 16, 65_536>,
-    call: Shelved,
+    cache: &mut RowCache<R, 16, 65_536>,
+    call: CacheCall,
 ) -> Result<bool, Fail> {
     match call {
-        Shelved::Keep(from, to) => {
+        CacheCall::Keep(from, to) => {
             for number in from..to {
-                shelf.keep(small_rows(rt, alloc, path, number)?);
+                cache.keep(small_rows(rt, alloc, path, number)?);
             }
         }
-        Shelved::Has(number, kept) => return Ok(is_same(
-            &shelf.find(path, number, SMALL).is_some(),
+        CacheCall::Has(number, kept) => return Ok(is_same(
+            &cache.find(path, number, SMALL).is_some(),
             &kept,
         )),
-        Shelved::HasNoOther(number) => return Ok(shelf.find("rows_other", number, SMALL).is_none()),
-        Shelved::Forget(number) => shelf.forget(number),
-        Shelved::Len(len) => return Ok(is_same(&shelf.len(), &len)),
+        CacheCall::HasNoOther(number) => return Ok(cache.find("rows_other", number, SMALL).is_none()),
+        CacheCall::Forget(number) => cache.forget(number),
+        CacheCall::Len(len) => return Ok(is_same(&cache.len(), &len)),
     }
     Ok(true)
 }
@@ -339,10 +339,10 @@ fn is_shelved<R: Opens>(
 fn rows_that_were_used_longest_ago_go_first(rt: HostRuntime) -> Result<(), Fail> {
     let path = "rows_small";
     fs::write(&rt, path, &[7; 8])?;
-    let mut shelf: RowShelf<HostRuntime, 16, 65_536> = RowShelf::new(rt.alloc());
-    for (place, call) in SHELVED.iter().enumerate() {
+    let mut cache: RowCache<HostRuntime, 16, 65_536> = RowCache::new(rt.alloc());
+    for (place, call) in CACHE_CALLS.iter().enumerate() {
         assert!(rt;
-            is_shelved(&rt, rt.alloc(), path, &mut shelf, *call)?,
+            answers_as(&rt, rt.alloc(), path, &mut cache, *call)?,
             "call {place}"
         );
     }

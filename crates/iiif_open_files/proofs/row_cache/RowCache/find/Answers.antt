@@ -2,7 +2,7 @@ use Rattle.std.proofs.Common.{◌≤◌, length, ap, arith}
 use Rattle.std.specs.Arc.{arc_value}
 use Rattle.iiif_open_files.specs.Kept.{size_of}
 use Rattle.iiif_open_files.proofs.Moving.{all_moved, moved_is}
-use Rattle.iiif_open_files.proofs.row_shelf.RowShelf.find.Goals as goal
+use Rattle.iiif_open_files.proofs.row_cache.RowCache.find.Goals as goal
 
 pub invariant_of-self-clause-small : goal.invariant_of-self-clause-small
 invariant_of-self-clause-small g c =

@@ -22,16 +22,16 @@ pub struct Opening<R: Opens> {
 /// Open files by the numbers of their sources, the one that was used last first. The one that was used longest ago is closed where
 /// there is no room for another, once no read holds it.
 #[derive(Drop)]
-pub struct Shelf<R: Opens> {
+pub struct FileCache<R: Opens> {
     files: LruCache<u64, Arc<Opening<R>>>,
 }
 
-impl<R: Opens> Shelf<R> {
+impl<R: Opens> FileCache<R> {
     /// No file, and room for so many.
-    pub fn new(alloc: Global, most: NonZeroUsize) -> Result<Shelf<R>, AllocError>
+    pub fn new(alloc: Global, most: NonZeroUsize) -> Result<FileCache<R>, AllocError>
         ensures { IfOk result (λ s. s.files ≡ lru_cache [] (non_zero_usize_get most)) }
     {
-        Ok(Shelf {
+        Ok(FileCache {
             files: LruCache::sparse(alloc, most)?,
         })
     }
@@ -58,7 +58,7 @@ impl<R: Opens> Shelf<R> {
         file
     }
 
-    /// Keeps the file of a number. Where memory runs out the shelf stays as it was, and the file is let go.
+    /// Keeps the file of a number. Where memory runs out the cache stays as it was, and the file is let go.
     pub fn keep(&mut self, number: u64, file: Arc<Opening<R>>)
         ensures { (self.new.files ≡ lru_cache (put_entries nat_eq self.old.files number file) self.old.files.cap) ⊎
             (self.new.files ≡ self.old.files) }

@@ -1,6 +1,6 @@
 use Rattle.std.proofs.Common.{rules}
 use Rattle.std.proofs.lemmas.Fn.{filter_same}
-use Rattle.iiif_open_files.proofs.row_shelf.RowShelf.forget.Goals as goal
+use Rattle.iiif_open_files.proofs.row_cache.RowCache.forget.Goals as goal
 
 pub returns : goal.returns
 returns g c = filter_same _ _ _ (λ x b f' k. search rules) _ _ c.retain.ensures.filtered

@@ -15,20 +15,20 @@ use std::sync::Arc;
 
 /// Rows that were read ahead: at most so many, of at most so many bytes each, the ones that were used last behind all others.
 #[derive(Drop)]
-pub struct RowShelf<R: Opens, const MOST: usize, const ROOM: usize> {
+pub struct RowCache<R: Opens, const MOST: usize, const ROOM: usize> {
     rows: Vec<Arc<WideRows<R>>>,
     ghost some: { 0 < MOST },
     ghost few: { vec_len rows ≤ MOST },
     ghost small: { All (λ w. size_of (arc_value w) ≤ ROOM) rows.items },
 }
 
-impl<R: Opens, const MOST: usize, const ROOM: usize> RowShelf<R, MOST, ROOM> {
+impl<R: Opens, const MOST: usize, const ROOM: usize> RowCache<R, MOST, ROOM> {
     /// No rows.
-    pub fn new(alloc: Global) -> RowShelf<R, MOST, ROOM>
+    pub fn new(alloc: Global) -> RowCache<R, MOST, ROOM>
         requires { 0 < MOST }
         ensures { result.rows.items ≡ [] }
     {
-        RowShelf {
+        RowCache {
             rows: Vec::new(alloc),
         }
     }
