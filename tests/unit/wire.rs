@@ -1,5 +1,5 @@
 //! Tests of what goes over wires, which call only what is public: devices that fail (`iiif_io`); heads as they come and as they are written
-//! (`iiif_http_front`); messages between nodes, whole and cut (`iiif_peer_wire`), asks in one stream (`iiif_peer_server`), and keys with
+//! (`iiif_http_front`); messages between nodes, whole and cut (`iiif_peer_wire`), asks in one stream (`iiif_peer_wire`), and keys with
 //! the versions of files in them (`iiif_peer_versions`); many connections at once, slow ones, and some that are gone, over loopback
 //! (`iiif_listener`); links that fail and come back (`iiif_breaker`).
 

@@ -1,13 +1,13 @@
 -- Runs of writes against the least rate.
-use Rattle.std.proofs.Common.{◌≡◌, ℕ, ◌+◌, ◌-◌, ◌*◌, ◌^◌, ◌<◌, ◌≤◌, ◌==◌, ◌⊎◌, Bool, true, false, List, [], ◌∷◌, All, min, if◌then◌else◌}
-use Rattle.std.proofs.Common.{nat_lt, nat_le, zero, suc, inl, inr, ⊎_elim, refl, sym, ap, subst, ◌∙◌, arith}
+use Rattle.std.proofs.Common.{◌≡◌, ℕ, ◌+◌, ◌-◌, ◌*◌, ◌^◌, ◌<◌, ◌≤◌, ◌==◌, Bool, true, false, List, [], ◌∷◌, All, if◌then◌else◌}
+use Rattle.std.proofs.Common.{nat_lt, zero, suc, inl, inr, refl, sym, ap, subst, ◌∙◌, arith}
 use Rattle.std.specs.Prelude.{sum_by}
-use Rattle.std.proofs.lemmas.Bool.{lt-ltb, le-ltb, le-leb, lt-leb}
+use Rattle.std.proofs.lemmas.Bool.{le-leb, lt-leb}
 use Rattle.std.proofs.lemmas.List.Sums.{sum_by-cons}
 use Rattle.std.proofs.lemmas.List.Elements.{All-tail}
 use Rattle.iiif_listener.specs.declared.flow.Flow.{Flow}
 use Rattle.iiif_listener.specs.declared.flow.Rate.{Rate}
-use Rattle.iiif_listener.specs.Flow.{begun, plus, is_enough, goes_on, taken_by, goes_on_behind, IsAbove, IsBelow, CanBeCounted}
+use Rattle.iiif_listener.specs.Flow.{begun, plus, is_enough, goes_on, taken_by, goes_on_behind, IsAbove, IsBelow}
 use Rattle.iiif_listener.specs.Flow.{IsNeverCutAbove, IsAlwaysCutBelow}
 
 abbrev waits : List (ℕ × ℕ) → ℕ

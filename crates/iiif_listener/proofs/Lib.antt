@@ -1,2 +1,2 @@
 mod Flows
-mod IdleLemmas
+mod RankingLemmas

@@ -1,3 +1,4 @@
 pub mod Failures
 pub mod Flow
 pub mod Places
+pub mod Recent

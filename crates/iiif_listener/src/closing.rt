@@ -6,13 +6,13 @@ use std::net::{Shutdown, TcpStream};
 use std::sync::Wait;
 use std::time::{Clock, Duration, Instant};
 
-/// How long, in milliseconds, a viewer whose connection is closed may send nothing before it is left alone.
+/// Time-out of a read from a viewer whose connection is closed, in milliseconds.
 const LINGER: u64 = 200;
 
-/// How long, in milliseconds, it may go on to send as a whole.
+/// Time for all of these reads, in milliseconds.
 const LONGEST: u64 = 2_000;
 
-/// How many blocks of 4,096 bytes are read and dropped behind the last answer.
+/// The most blocks of 4,096 bytes that are read and dropped behind the last answer.
 const UNREAD_BLOCKS: u32 = 64;
 
 /// Closes a connection whose answers are sent. Input that was left unread would make the kernel reset the connection and drop
@@ -39,7 +39,7 @@ pub fn close<R: Clock + Wait>(rt: &R, place: &Place<'_, R>, mut stream: TcpStrea
     }
 }
 
-/// The time that is left to a connection that is being closed since then. None where none is.
+/// Returns the time that is left to a connection that is being closed since an instant. None where none is.
 fn left_since<R: Clock>(rt: &R, begun: Instant) -> Option<Duration> {
     let passed = begun.elapsed(rt).ok()?;
     match Duration::from_millis(LONGEST).checked_sub(passed) {

@@ -3,15 +3,15 @@
 ghost use Rattle.std.specs.Prelude.{◌≡◌};
 ghost use Rattle.iiif_listener.specs.Flow.{begun, goes_on, taken_by};
 
-/// How fast an answer is to be taken: so many bytes a second, over each time of so many milliseconds for which it was waited. At 0 bytes it
-/// may be taken as slowly as one likes.
+/// The least rate of a reader: so many bytes a second, over each period of so many milliseconds of waiting. At 0 bytes it may be as slow as
+/// it likes.
 #[derive(Clone, Copy, PartialEq, Eq)]
 pub struct Rate {
     pub bytes: u64,
     pub period: u32,
 }
 
-/// How an answer is taken: what was written, and how long that was waited for, since it was last looked at.
+/// The rate of an answer so far: the bytes written, and the time waited for that, since the rate was last looked at.
 #[derive(Clone, Copy, PartialEq, Eq, Drop)]
 pub struct Flow {
     rate: Rate,
@@ -20,7 +20,7 @@ pub struct Flow {
 }
 
 impl Flow {
-    /// Of a connection to which nothing was written yet.
+    /// Makes the flow of a connection to which nothing was written yet.
     pub fn new(rate: Rate) -> Flow
         ensures { result ≡ begun rate }
     {
@@ -31,10 +31,9 @@ impl Flow {
         }
     }
 
-    /// Takes in a write that took so many milliseconds, and says whether the answer goes on. What is written at once was taken by memory of
-    /// the system, and says nothing of who reads: it counts for neither. Once it was waited for as long as the period, the rate is looked
-    /// at, and
-    /// all begins anew.
+    /// Counts a write that took so many milliseconds, and returns whether the answer goes on. Bytes that are written at once were taken by
+    /// the system's buffers, and say nothing of the reader: they count for neither. Once the waits add up to the period, the rate is looked
+    /// at, and all begins anew.
     pub fn take(&mut self, waited: u64, bytes: u64) -> bool
         ensures value { result ≡ goes_on self.old waited bytes }
         ensures state { self.new ≡ taken_by self.old waited bytes }

@@ -2,31 +2,31 @@
 
 use std::sync::atomic::{AtomicU64, Ordering};
 
-/// The connections that are open.
+/// A count of the connections that are open.
 #[derive(Drop)]
 pub struct OpenConnections {
     open: AtomicU64,
 }
 
 impl OpenConnections {
-    /// None is open.
+    /// Makes a count of 0.
     pub fn new() -> OpenConnections {
         OpenConnections {
             open: AtomicU64::new(0),
         }
     }
 
-    /// One more is open.
+    /// Counts a connection in.
     pub fn enter(&self) {
         self.open.fetch_add(1, Ordering::SeqCst);
     }
 
-    /// One that was open is closed.
+    /// Counts a connection out.
     pub fn leave(&self) {
         self.open.fetch_sub(1, Ordering::SeqCst);
     }
 
-    /// Whether one is open, and no other.
+    /// Returns whether exactly one is open.
     pub fn is_alone(&self) -> bool {
         self.open.load(Ordering::SeqCst) == 1
     }

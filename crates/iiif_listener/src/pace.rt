@@ -3,9 +3,11 @@
 ghost use Rattle.std.specs.Prelude.{◌≤◌, ◌++◌, IfOk, IfSome, length};
 
 use crate::flow::Flow;
+use crate::generations::Generation;
 use crate::open_connections::OpenConnections;
 use crate::places::Place;
 use crate::primed_memory::PrimedMemory;
+use crate::retry::is_silence;
 use iiif_io::{Inlet, Outlet, is_ended, is_reset};
 use std::io;
 use std::io::{ErrorKind, Read, Write};
@@ -15,31 +17,34 @@ use std::sync::atomic::{AtomicBool, AtomicU64, Ordering};
 use std::thread::yield_now;
 use std::time::{Clock, Duration, Instant};
 
-/// How long a connection that is alone is looked at for the next head before this is waited for, in microseconds: about what a viewer
-/// needs to take an answer of 64 KiB and to ask again. A thread that waits is woken no sooner than some 10 after its bytes came.
+/// Time for which a connection that is alone is polled for the next head before the thread sleeps, in microseconds: about the time in which
+/// a viewer takes an answer of 64 KiB and asks again. A thread that sleeps is woken no sooner than some 10 after its bytes came.
 const MOMENT: u64 = 100;
 
-/// How often it is looked at in that time, at most.
+/// The most polls in that time.
 const LOOKS: u32 = 1000;
 
-/// How many writes in a row take nothing until who reads counts as gone. Each waits for a part of the time: of one that takes a byte at
-/// once and then waits, the wait isn't counted, and is no longer than that part.
+/// Time-out of one wait for the next request, in milliseconds: then the connection looks whether its generation still serves.
+const SLICE: u64 = 100;
+
+/// The number of writes in a row that take nothing until the reader counts as gone. Each waits for a part of the time: of one that takes a
+/// byte at once and then waits, the wait isn't counted, and is no longer than that part.
 const WRITES: u32 = 10;
 
 /// Why a connection takes no more of an answer.
 #[derive(Clone, Copy, Debug, PartialEq, Eq)]
 pub enum Departure {
-    /// Who reads has closed or reset the connection.
+    /// The reader has closed or reset the connection.
     Left,
     /// Nothing was taken for as long as is waited.
     Stalled,
-    /// It was taken slower than the least rate.
+    /// It was taken slower than the least rate, or so slowly that another connection was given the place.
     Slow,
 }
 
-/// When a connection began, how many milliseconds later something was last read and last written there, whether it was written since it was
-/// last looked at, whether nothing was read since then or since it began, how many bytes of that were a text behind another, how long
-/// a head may take as a whole, and whether an answer was found to be taken too slowly, or not at all.
+/// The times of a connection: its start, the milliseconds until something was last read and last written, whether something was written
+/// since the last poll, whether nothing was read since then or since the start, the bytes of the last body, the time-out of a head as a
+/// whole, whether its reader was found to be too slow or stalled, and whether the input was ended for another generation.
 #[derive(Drop)]
 pub struct Pace {
     start: Instant,
@@ -51,10 +56,11 @@ pub struct Pace {
     limit: Duration,
     slow: AtomicBool,
     stalled: AtomicBool,
+    moved: AtomicBool,
 }
 
 impl Pace {
-    /// A connection that begins now, with so much time for each head.
+    /// Times a connection that begins now, with so much time for each head.
     pub fn new<R: Clock>(rt: &R, limit: Duration) -> io::Result<Pace> {
         Ok(Pace {
             start: Instant::now(rt)?,
@@ -66,10 +72,16 @@ impl Pace {
             limit,
             slow: AtomicBool::new(false),
             stalled: AtomicBool::new(false),
+            moved: AtomicBool::new(false),
         })
     }
 
-    /// The milliseconds since the connection began.
+    /// Returns whether the input was ended between two requests, for another generation to serve the next: nothing of that was read.
+    pub fn is_moved(&self) -> bool {
+        self.moved.load(Ordering::SeqCst)
+    }
+
+    /// Returns the milliseconds since the connection began.
     fn now<R: Clock>(&self, rt: &R) -> io::Result<u64> {
         let millis = self.start.elapsed(rt)?.as_millis();
         Ok(u64::try_from(millis).unwrap_or(u64::MAX))
@@ -84,7 +96,7 @@ impl Pace {
         Ok(())
     }
 
-    /// Why an answer that was cut off isn't taken any more, as far as its writer found out.
+    /// Returns why an answer that was cut off isn't taken any more, as far as its writer found out.
     pub fn departure(&self) -> Departure {
         if self.slow.load(Ordering::SeqCst) {
             Departure::Slow
@@ -95,14 +107,14 @@ impl Pace {
         }
     }
 
-    /// Something was read: what was to be answered before was taken whole, however slowly.
+    /// Notes that something was read: the last answer was taken whole, however slowly.
     fn hear<R: Clock>(&self, rt: &R) -> io::Result<()> {
         self.slow.store(false, Ordering::SeqCst);
         self.read.store(self.now(rt)?, Ordering::SeqCst);
         Ok(())
     }
 
-    /// How long an answer is in the making: since something was last read or written.
+    /// Returns the time since something was last read or written, for which an answer is in the making.
     fn making<R: Clock>(&self, rt: &R) -> io::Result<Duration> {
         let last = self
             .read
@@ -111,7 +123,7 @@ impl Pace {
         Ok(Duration::from_millis(self.now(rt)?.saturating_sub(last)))
     }
 
-    /// The time that is left for the head, an error where none is.
+    /// Returns the time that is left for the head, an error where none is.
     fn left<R: Clock>(&self, rt: &R) -> io::Result<Duration> {
         let passed = self
             .now(rt)?
@@ -123,21 +135,45 @@ impl Pace {
     }
 }
 
-/// What a connection sends. A read fails where nothing comes for `idle`, or where the time since the last write is over, however
-/// few bytes come at once. While nothing of a request came, the place may be given to another connection: then this one's input ends.
+/// The reader of a connection. A read fails where nothing comes for `idle`, or where the time since the last write is over, however few
+/// bytes come at once. While nothing of a request came, the place may be given to another connection: then this one's input ends. So it
+/// does before a request of which nothing was read, where another generation serves, or the node drains.
 #[derive(Drop)]
 pub struct PacedReader<'a, R: Clock + Wait> {
     pub stream: TcpStream,
     pub rt: &'a R,
     pub pace: &'a Pace,
-    /// How long nothing may come.
+    /// The time-out of a read.
     pub idle: Duration,
     /// Its place.
     pub place: &'a Place<'a, R>,
     /// The connections that are open: where this one is alone, the next head is looked for a moment before it is waited for.
-    pub company: &'a OpenConnections,
-    /// What is written to before it is looked for, as much as stood behind the last answer's head: the next one is likely of that size.
+    pub connections: &'a OpenConnections,
+    /// Memory that is written to before a head is looked for, as much as stood behind the last answer's head: the next is likely of that
+    /// size.
     pub warm: PrimedMemory,
+    /// The generation that serves it.
+    pub generation: Generation<'a>,
+    /// Whether more than a request may be read at once.
+    pub reads_ahead: bool,
+    /// Whether the last read ended where a head does, so that nothing of the next request was read.
+    pub is_clear: bool,
+}
+
+/// The end of a wait for a request.
+#[derive(Clone, Copy)]
+enum Awaited {
+    /// Something of one can be read, or the end of the input.
+    Came,
+    /// Another generation serves.
+    Moved,
+    /// The node drains.
+    Drained,
+}
+
+/// Returns whether bytes end where a head does.
+fn ends_head(bytes: &[u8]) -> bool {
+    bytes.ends_with(b"\n\r\n") || bytes.ends_with(b"\n\n")
 }
 
 /// Reads what came, without waiting. None where nothing did in a moment.
@@ -160,7 +196,7 @@ fn glance<R: Clock>(rt: &R, stream: &mut TcpStream, buffer: &mut [u8]) -> io::Re
     Ok(None)
 }
 
-/// The same of a stream whose reads wait, which do so again then.
+/// Reads what came to a stream whose reads wait, without waiting; they wait again then.
 fn look<R: Clock>(rt: &R, stream: &mut TcpStream, buffer: &mut [u8]) -> io::Result<Option<usize>>
     ensures { IfOk result (λ found. IfSome found (λ n. n ≤ length buffer.new)) }
 {
@@ -171,12 +207,78 @@ fn look<R: Clock>(rt: &R, stream: &mut TcpStream, buffer: &mut [u8]) -> io::Resu
 }
 
 impl<'a, R: Clock + Wait> PacedReader<'a, R> {
-    /// Reads, where so much time is left for it.
-    fn receive(&mut self, left: Duration, buffer: &mut [u8]) -> io::Result<usize>
+    /// Returns the time-out of one wait for a request that has been awaited since an instant. None where the node drains, and an error
+    /// where no time is left.
+    fn slice(&self, begun: Instant) -> io::Result<Option<Duration>> {
+        let left = self.pace.left(self.rt)?;
+        let idle = match self.idle.checked_sub(begun.elapsed(self.rt)?) {
+            Some(idle) if !idle.is_zero() => idle,
+            _ => return Err(io::Error::from(ErrorKind::TimedOut)),
+        };
+        let slice = left.min(idle).min(Duration::from_millis(SLICE));
+        match self.generation.all.left(self.rt)? {
+            Some(closing) if closing.is_zero() => Ok(None),
+            Some(closing) => Ok(Some(slice.min(closing))),
+            None => Ok(Some(slice)),
+        }
+    }
+
+    /// Waits until something of a request comes, and reads nothing of it.
+    fn await_request(&self) -> io::Result<Awaited> {
+        let begun = Instant::now(self.rt)?;
+        let mut byte = [0u8; 1];
+        for _ in self.rt.forever() {
+            if self.generation.is_over() {
+                return Ok(Awaited::Moved);
+            }
+            let Some(slice) = self.slice(begun)? else {
+                return Ok(Awaited::Drained);
+            };
+            self.stream.set_read_timeout(Some(slice))?;
+            match self.stream.peek(&mut byte) {
+                Ok(_) if self.generation.is_over() => return Ok(Awaited::Moved),
+                Ok(_) => return Ok(Awaited::Came),
+                Err(error) if is_silence(error.kind()) => {}
+                Err(error) if error.kind() == ErrorKind::Interrupted => {}
+                Err(error) => return Err(error),
+            }
+        }
+        unreachable!()
+    }
+
+    /// Returns whether the input ends before the next request, by the end of the wait for it.
+    fn ends_by(&self, awaited: Awaited) -> bool {
+        match awaited {
+            Awaited::Came => false,
+            Awaited::Moved => {
+                self.pace.moved.store(true, Ordering::SeqCst);
+                true
+            }
+            Awaited::Drained => true,
+        }
+    }
+
+    /// Checks, without waiting, whether the next request is another generation's, or none is served any more.
+    fn look_ahead(&self) -> io::Result<Awaited> {
+        if self.generation.is_over() {
+            return Ok(Awaited::Moved);
+        }
+        match self.generation.all.left(self.rt)? {
+            Some(closing) if closing.is_zero() => Ok(Awaited::Drained),
+            _ => Ok(Awaited::Came),
+        }
+    }
+
+    /// Reads within the time that is left for it. Between two requests the next one is waited for first.
+    fn receive(&mut self, left: Duration, buffer: &mut [u8], between: bool) -> io::Result<usize>
         ensures { IfOk result (λ n. n ≤ length buffer.new) }
     {
+        // However fast a request follows.
+        if between && self.ends_by(self.look_ahead()?) {
+            return Ok(0);
+        }
         // Once for each answer, so that one who drips costs no more than before.
-        if self.pace.answered.swap(false, Ordering::SeqCst) && self.company.is_alone() {
+        if self.pace.answered.swap(false, Ordering::SeqCst) && self.connections.is_alone() {
             self.warm
                 .take(self.pace.behind.load(Ordering::SeqCst) as usize);
             let found = look(self.rt, &mut self.stream, buffer);
@@ -185,7 +287,13 @@ impl<'a, R: Clock + Wait> PacedReader<'a, R> {
                 return Ok(count);
             }
         }
-        self.stream.set_read_timeout(Some(left.min(self.idle)))?;
+        if between {
+            if self.ends_by(self.await_request()?) {
+                return Ok(0);
+            }
+        } else {
+            self.stream.set_read_timeout(Some(left.min(self.idle)))?;
+        }
         self.stream.pull(buffer)
     }
 }
@@ -197,7 +305,11 @@ impl<'a, R: Clock + Wait> Read for PacedReader<'a, R> {
         if begins {
             self.place.rest();
         }
-        let count = self.receive(left, buffer)?;
+        let between = begins && (self.is_clear || !self.reads_ahead);
+        let count = self.receive(left, buffer, between)?;
+        if self.reads_ahead && count <= buffer.len() {
+            self.is_clear = ends_head(&buffer[..count]);
+        }
         self.pace.hear(self.rt)?;
         // Where the input has ended, the place may be taken until the connection is closed.
         if begins && count > 0 && !self.place.work() {
@@ -216,49 +328,58 @@ impl<'a, R: Clock + Wait> Inlet for PacedReader<'a, R> {
     }
 }
 
-/// What a connection is sent. Each write begins the time for the next head anew, so it doesn't run while an answer is made. A write fails
+/// The writer of a connection. Each write begins the time for the next head anew, so it doesn't run while an answer is made. A write fails
 /// where nothing is taken for as long as is waited, and behind one by which the answer was taken slower than the least rate: an answer
 /// whose last byte was taken isn't cut.
 #[derive(Drop)]
-pub struct PacedWriter<'a, R: Clock> {
+pub struct PacedWriter<'a, R: Clock + Wait> {
     pub stream: TcpStream,
     pub rt: &'a R,
     pub pace: &'a Pace,
-    /// How long an answer may be in the making until one who sends no more is taken for gone. Such a one may read on, but a proxy that
-    /// closes
-    /// looks the same.
+    /// Its place, which is told how fast the answer is taken.
+    pub place: &'a Place<'a, R>,
+    /// The generation that serves it, by whose clock that is told.
+    pub generation: Generation<'a>,
+    /// Time for which an answer may be in the making until a viewer that sends no more is taken for gone. It may read on, but a proxy that
+    /// closes looks the same.
     pub patience: Duration,
-    /// How fast the answer is to be taken, and was so far.
+    /// The least rate of the answer's reader, and its rate so far.
     pub flow: Flow,
 }
 
-/// How long a write waits, where nothing may be taken for so long.
+/// Returns the time-out of one write, where a reader may stall for so long.
 pub fn write_limit(stalled: Duration) -> Duration {
     stalled / WRITES
 }
 
-/// Whether a write that failed so took nothing in its time.
-fn is_pause(kind: ErrorKind) -> bool {
-    match kind {
-        ErrorKind::WouldBlock | ErrorKind::TimedOut => true,
-        _ => false,
+impl<'a, R: Clock + Wait> PacedWriter<'a, R> {
+    /// Tells the place of a write of so many bytes that took so many milliseconds. One that took none says nothing of the reader.
+    fn tell(&self, waited: u64, bytes: usize) {
+        if waited == 0 {
+            return;
+        }
+        // Without a clock nothing is told.
+        if let Ok(now) = self.generation.all.now(self.rt) {
+            self.place.take(now, waited, bytes as u64);
+        }
     }
-}
 
-impl<'a, R: Clock> PacedWriter<'a, R> {
-    /// Takes in a write of so many bytes that began at a moment, where there is a clock: where that fails, so does the next read. Where the
-    /// answer is taken too slowly, the next write fails.
+    /// Counts a write of so many bytes that began at a moment, where there is a clock: where that fails, so does the next read. Where the
+    /// reader is too slow, the next write fails.
     fn count(&mut self, begun: io::Result<u64>, bytes: usize, behind: usize) {
         let _ = self.pace.begin(self.rt, behind);
         let (Ok(begun), Ok(now)) = (begun, self.pace.now(self.rt)) else {
             return;
         };
-        if !self.flow.take(now.saturating_sub(begun), bytes as u64) {
+        let waited = now.saturating_sub(begun);
+        self.tell(waited, bytes);
+        if !self.flow.take(waited, bytes as u64) {
             self.pace.slow.store(true, Ordering::SeqCst);
         }
     }
 
-    /// Writes some of two texts, again where nothing is taken for a while, until that was tried as often as is waited.
+    /// Writes some of two texts, and tries again where the reader stalls, up to ten times. Where the connection was shut down for another,
+    /// its reader was too slow.
     fn try_both(&mut self, first: &[u8], second: &[u8]) -> io::Result<usize>
         ensures { IfOk result (λ n. n ≤ length (first.now ++ second.now)) }
     {
@@ -267,8 +388,14 @@ impl<'a, R: Clock> PacedWriter<'a, R> {
         }
         for _ in 0..WRITES {
             match self.stream.put_both(first, second) {
-                Err(error) if is_pause(error.kind()) => {}
-                written => return written,
+                Err(error) if is_silence(error.kind()) => {}
+                Err(error) => {
+                    if !self.place.is_kept() {
+                        self.pace.slow.store(true, Ordering::SeqCst);
+                    }
+                    return Err(error);
+                }
+                Ok(count) => return Ok(count),
             }
         }
         self.pace.stalled.store(true, Ordering::SeqCst);
@@ -276,7 +403,7 @@ impl<'a, R: Clock> PacedWriter<'a, R> {
     }
 }
 
-impl<'a, R: Clock> Write for PacedWriter<'a, R> {
+impl<'a, R: Clock + Wait> Write for PacedWriter<'a, R> {
     fn write(&mut self, bytes: &[u8]) -> io::Result<usize> {
         let begun = self.pace.now(self.rt);
         let count = self.try_both(bytes, &[])?;
@@ -289,15 +416,16 @@ impl<'a, R: Clock> Write for PacedWriter<'a, R> {
     }
 }
 
-/// Nothing is known but that a write failed, or that who reads was found to be gone.
-impl<'a, R: Clock> Outlet for PacedWriter<'a, R> {
+/// Nothing is known but that a write failed, or that the reader was found to be gone.
+impl<'a, R: Clock + Wait> Outlet for PacedWriter<'a, R> {
     ghost fails = { λ _ _. Unit {0} };
 
     fn put(&mut self, bytes: &[u8]) -> io::Result<usize> {
         self.write(bytes)
     }
 
-    /// One who reset the connection is gone at once. One who sends no more is, once the answer is in the making for longer than is waited.
+    /// Returns whether the reader is gone: at once where it reset the connection; where it sends no more, once the answer is in the making
+    /// for longer than `patience`.
     fn is_gone(&self) -> bool {
         if is_reset(&self.stream) {
             return true;

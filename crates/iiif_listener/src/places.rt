@@ -10,7 +10,7 @@ use std::alloc::{AllocError, Global};
 use std::net::{IpAddr, Shutdown, TcpStream};
 use std::sync::{Mutex, Wait};
 
-/// Who has the places, and a handle on each connection, by which it is ended.
+/// The table of places, and a handle on each connection, by which it is shut down.
 #[derive(Drop)]
 struct Room {
     table: Table,
@@ -19,7 +19,7 @@ struct Room {
 }
 
 impl Room {
-    /// All places are free.
+    /// Makes free places.
     fn new(alloc: Global) -> Result<Room, AllocError> {
         let mut handles = Vec::with_capacity(alloc, MOST as usize)?;
         for _ in 0..MOST {
@@ -31,9 +31,15 @@ impl Room {
         })
     }
 
-    /// Gives a place, as [`Table::enter`] does. The connection that had it until then is ended for who reads and who writes there.
-    fn enter(&mut self, address: u128, bound: usize, handle: TcpStream) -> Option<Ticket> {
-        let ticket = self.table.enter(address, bound)?;
+    /// Gives a place, as [`Table::enter`] does. The connection that had it until then is shut down.
+    fn enter(
+        &mut self,
+        address: u128,
+        bound: usize,
+        now: u64,
+        handle: TcpStream,
+    ) -> Option<Ticket> {
+        let ticket = self.table.enter(address, bound, now)?;
         if let Some(left) = self.handles[ticket.place].replace(handle) {
             // One that can't be ended so has ended.
             let _ = left.shutdown(Shutdown::Both);
@@ -41,7 +47,17 @@ impl Room {
         Some(ticket)
     }
 
-    /// A connection has ended.
+    /// Shuts all connections down.
+    fn end_all(&self) {
+        for handle in &self.handles {
+            if let Some(handle) = handle {
+                // One that can't be ended so has ended.
+                let _ = handle.shutdown(Shutdown::Both);
+            }
+        }
+    }
+
+    /// Frees the place of a connection that has ended.
     fn leave(&mut self, ticket: Ticket) {
         if self.table.leave(ticket) {
             self.handles[ticket.place] = None;
@@ -49,7 +65,7 @@ impl Room {
     }
 }
 
-/// The places of a listener. What is done with them is done under a lock, as [`Table`] says.
+/// The places of a listener: a [`Table`] behind a lock.
 #[derive(Drop)]
 pub struct Places {
     room: Mutex<Room>,
@@ -57,7 +73,7 @@ pub struct Places {
 }
 
 impl Places {
-    /// All are free. One address may have so many at a time: 0 stands for any number.
+    /// Makes free places. One address may have so many at a time: 0 stands for any number.
     pub fn new(alloc: Global, bound: usize) -> Result<Places, AllocError> {
         Ok(Places {
             room: Mutex::new(Room::new(alloc)?),
@@ -65,20 +81,22 @@ impl Places {
         })
     }
 
-    /// A place for a connection that comes from there: one that is free, or else that of the connection which waits longest for its next
-    /// request, and is ended. None where none of them waits, where this address has as many as it may, or where a handle is missing: then
-    /// the connection is closed.
+    /// Gives a place to a connection that comes from an address at this moment, in milliseconds: one that is free, or else that of a
+    /// connection which is shut down, as [`Table::enter`] says: the one that has been idle longest; else the slowest of those that take
+    /// less than 64,000 bytes a second; else one of another address that has more than sixteen places. None where there is none of these,
+    /// where this address has as many as it may, or where a handle is missing: then the connection is closed.
     pub fn enter<'a, R: Wait>(
         &'a self,
         rt: &'a R,
         stream: TcpStream,
         from: IpAddr,
+        now: u64,
     ) -> Option<Visit<'a, R>> {
         let handle = stream.try_clone().ok()?;
         let ticket = self
             .room
             .lock(rt)
-            .enter(address_of(from), self.bound, handle)?;
+            .enter(address_of(from), self.bound, now, handle)?;
         Some(Visit {
             stream,
             place: Place {
@@ -89,13 +107,18 @@ impl Places {
         })
     }
 
-    /// How many are taken now.
+    /// Shuts all connections down, whatever they do: each finds it out by its next read or write.
+    pub fn end_all<R: Wait>(&self, rt: &R) {
+        self.room.lock(rt).end_all();
+    }
+
+    /// Counts the places that are taken.
     pub fn taken<R: Wait>(&self, rt: &R) -> usize {
         self.room.lock(rt).table.taken()
     }
 }
 
-/// A place that was given to a connection. Where it is dropped the connection has ended.
+/// A connection's place. It is dropped once the connection has ended, and is free then.
 pub struct Place<'a, R: Wait> {
     places: &'a Places,
     rt: &'a R,
@@ -103,17 +126,26 @@ pub struct Place<'a, R: Wait> {
 }
 
 impl<'a, R: Wait> Place<'a, R> {
-    /// The connection waits for a request from now on: until one comes, its place may be given to another connection.
+    /// Marks the connection as idle: until a request comes, its place may be given to another connection.
     pub fn rest(&self) {
         self.places.room.lock(self.rt).table.rest(self.ticket);
     }
 
-    /// A request came. It says whether the connection still has its place.
+    /// Marks the connection as at work, since a request came. Returns whether it still has its place.
     pub fn work(&self) -> bool {
         self.places.room.lock(self.rt).table.work(self.ticket)
     }
 
-    /// Whether the connection still has its place.
+    /// Counts a write that ended now, in milliseconds, and took so many milliseconds and bytes.
+    pub fn take(&self, now: u64, waited: u64, bytes: u64) {
+        self.places
+            .room
+            .lock(self.rt)
+            .table
+            .take(self.ticket, now, waited, bytes);
+    }
+
+    /// Returns whether the connection still has its place.
     pub fn is_kept(&self) -> bool {
         self.places.room.lock(self.rt).table.keeps(self.ticket)
     }

@@ -2,10 +2,10 @@
 
 use std::alloc::Global;
 
-/// What is written to at once. A larger piece would be written past the processor's caches.
+/// The bytes that are written at once. A larger piece would be written past the processor's caches.
 const PIECE: [u8; 1024] = [0; 1024];
 
-/// How many bytes at most: a part of what a processor's cache holds.
+/// The most bytes: a part of a processor's cache.
 const MOST: usize = 262_144;
 
 /// Memory that is written to while a viewer takes its answer, and given back before the next is made. The allocator hands out again what
@@ -16,7 +16,7 @@ pub struct PrimedMemory {
 }
 
 impl PrimedMemory {
-    /// None yet.
+    /// Makes primed memory of no bytes.
     pub fn new(alloc: Global) -> PrimedMemory {
         PrimedMemory {
             bytes: Vec::new(alloc),

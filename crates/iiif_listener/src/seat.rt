@@ -1,6 +1,8 @@
-//! What a listener knows of a connection.
+//! A connection, as its listener knows it.
 
-/// What a connection does at its place.
+use crate::recent::Recent;
+
+/// The state of a place.
 #[derive(Clone, Copy, PartialEq, Eq)]
 pub enum SeatState {
     /// No connection is there.
@@ -14,9 +16,11 @@ pub enum SeatState {
 /// A place, and the connection that has it.
 #[derive(Clone, Copy, PartialEq, Eq)]
 pub struct Seat {
-    /// What tells the connection from those that had the place before. 0 where it is free.
+    /// The number that tells the connection from those that had the place before. 0 where it is free.
     pub number: u64,
     /// Where it comes from, as [`crate::address_of`] has it.
     pub address: u128,
     pub standing: SeatState,
+    /// The rate at which it took answers of late.
+    pub recent: Recent,
 }

@@ -1,7 +1,8 @@
 //! A service for tests.
 
 use crate::fixtures::is_same;
-use iiif_listener::{Serve, Visit};
+use crate::fixtures::listeners::Serve;
+use iiif_listener::{Arrival, Door, Refused, Visit};
 use std::alloc::Global;
 use std::io::{Read, Write};
 use std::net::{Net, TcpListener, TcpStream};
@@ -36,34 +37,42 @@ impl Echo {
     }
 }
 
-impl<R: Wait> Serve<R> for Echo {
-    fn report_refused(&self, _rt: &R) {
+impl<R> Refused<R> for Echo {
+    fn report_refused(&self, _rt: &R, _door: Door) {
         self.turned_away.fetch_add(1, Ordering::SeqCst);
     }
+}
 
-    fn serve(&self, _rt: &R, _alloc: Global, visit: Visit<'_, R>) {
+impl<R: Wait> Serve<R> for Echo {
+    fn serve<'p>(
+        &self,
+        _rt: &'p R,
+        _alloc: Global,
+        arrival: Arrival<'p, R>,
+    ) -> Option<Arrival<'p, R>> {
         // The place is kept until the connection has ended.
         let Visit {
             mut stream,
             place: _place,
-        } = visit;
+        } = arrival.visit;
         let _ = stream.set_read_timeout(Some(Duration::from_millis(IDLE)));
         let _ = stream.set_write_timeout(Some(Duration::from_millis(IDLE)));
         self.served.fetch_add(1, Ordering::SeqCst);
         if stream.write_all(b"+").is_err() {
-            return;
+            return None;
         }
         let mut byte = [0u8; 1];
         for _ in 0..1000u32 {
             match stream.read(&mut byte) {
                 Ok(1) => {
                     if stream.write_all(&byte).is_err() {
-                        return;
+                        return None;
                     }
                 }
-                _ => return,
+                _ => return None,
             }
         }
+        None
     }
 }
 

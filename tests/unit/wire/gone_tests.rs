@@ -3,12 +3,13 @@
 use crate::fixtures::is_same;
 use crate::wire::echo::connected;
 use iiif_io::Outlet;
-use iiif_listener::{Flow, Pace, PacedWriter, Rate};
+use iiif_listener::{Flow, Generation, Generations, Pace, PacedWriter, Places, Rate, Visit};
 use std::io::{Read, Write};
-use std::net::{Shutdown, TcpStream};
+use std::net::{IpAddr, Ipv4Addr, Shutdown, TcpStream};
 use std::rt::HostRuntime;
+use std::sync::Wait;
 use std::thread;
-use std::time::{Duration, Instant};
+use std::time::{Clock, Duration, Instant};
 
 /// As much as is taken of no one.
 const ANY: Rate = Rate {
@@ -17,13 +18,21 @@ const ANY: Rate = Rate {
 };
 
 /// Whether a stream's reader is gone: at once, and where the answer is in the making for longer than is waited.
-fn gone(rt: &HostRuntime, stream: TcpStream) -> Option<(bool, bool)> {
+fn gone<R: Clock + Wait + AllocGlobal>(rt: &R, stream: TcpStream) -> Option<(bool, bool)> {
     let pace = Pace::new(rt, Duration::from_millis(1_000)).ok()?;
+    let places = Places::new(rt.alloc(), 0).ok()?;
+    let generations = Generations::new(rt).ok()?;
+    let Visit { stream, place } = places.enter(rt, stream, IpAddr::V4(Ipv4Addr::LOCALHOST), 0)?;
     thread::sleep(rt, Duration::from_millis(50));
     let mut out = PacedWriter {
         stream,
         rt,
         pace: &pace,
+        place: &place,
+        generation: Generation {
+            all: &generations,
+            number: 0,
+        },
         patience: Duration::from_millis(60_000),
         flow: Flow::new(ANY),
     };
@@ -73,7 +82,10 @@ fn peer_that_resets_is_gone(rt: HostRuntime) {
 }
 
 /// How long a read of a silent peer's stream takes, which waits for 100 ms, once it was looked whether the peer is gone.
-fn read_behind_a_look(rt: &HostRuntime, stream: TcpStream) -> Option<Duration> {
+fn read_behind_a_look<R: Clock + Wait + AllocGlobal>(
+    rt: &R,
+    stream: TcpStream,
+) -> Option<Duration> {
     stream
         .set_read_timeout(Some(Duration::from_millis(100)))
         .ok()?;

@@ -1,8 +1,9 @@
 //! Many connections at once.
 
+use crate::fixtures::listeners::serve_listener;
 use crate::fixtures::{is_missing, is_same};
 use crate::wire::echo::{Echo, greeted};
-use iiif_listener::{Admission, serve_listener, stop};
+use iiif_listener::{Admission, stop};
 use std::alloc::Global;
 use std::io::ErrorKind;
 use std::net::{IpAddr, Ipv4Addr, Net, TcpListener, TcpStream};

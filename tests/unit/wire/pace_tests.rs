@@ -4,7 +4,7 @@ use crate::fixtures::is_same;
 use crate::wire::echo::connected;
 use iiif_io::{Inlet, Outlet};
 use iiif_listener::{
-    Flow, OpenConnections, Pace, PacedReader, PacedWriter, Places, PrimedMemory, Rate, Visit, close,
+    Flow, Generation, Generations, OpenConnections, Pace, PacedReader, PacedWriter, Places, PrimedMemory, Rate, Visit, close,
 };
 use std::alloc::Global;
 use std::io::{Read, Write};
@@ -15,12 +15,12 @@ use std::thread::Threads;
 use std::time::{Clock, Duration};
 
 /// So many connections.
-fn company_of(count: u32) -> OpenConnections {
-    let company = OpenConnections::new();
+fn connections_of(count: u32) -> OpenConnections {
+    let connections = OpenConnections::new();
     for _ in 0..count {
-        company.enter();
+        connections.enter();
     }
-    company
+    connections
 }
 
 /// How many single bytes are read before the time is over, each answered where `answers` is set, of one of so many connections.
@@ -32,7 +32,10 @@ fn read_drops<R: Clock + Wait>(
     open: u32,
 ) -> Option<u32> {
     let Visit { stream, place } = visit;
-    let company = company_of(open);
+    let connections = connections_of(open);
+    let Ok(generations) = Generations::new(rt) else {
+        return None;
+    };
     let Ok(pace) = Pace::new(rt, Duration::from_millis(500)) else {
         return None;
     };
@@ -43,6 +46,11 @@ fn read_drops<R: Clock + Wait>(
         stream: answering,
         rt,
         pace: &pace,
+        place: &place,
+        generation: Generation {
+            all: &generations,
+            number: 0,
+        },
         patience: Duration::from_millis(1_000),
         flow: Flow::new(Rate {
             bytes: 4_096,
@@ -55,8 +63,14 @@ fn read_drops<R: Clock + Wait>(
         pace: &pace,
         idle: Duration::from_millis(400),
         place: &place,
-        company: &company,
+        connections: &connections,
         warm: PrimedMemory::new(alloc),
+        generation: Generation {
+            all: &generations,
+            number: 0,
+        },
+        reads_ahead: true,
+        is_clear: true,
     };
     Some(count_drops(&mut reader, &mut out, answers))
 }
@@ -131,7 +145,7 @@ type Seen = (Option<u32>, Option<(usize, [u8; 8])>);
 /// How many single bytes of a viewer are read, where it drips.
 fn serve<R: Clock + Wait + AllocGlobal>(rt: &R, stream: TcpStream, viewer: Viewer) -> Option<u32> {
     let places = Places::new(rt.alloc(), 0).ok()?;
-    let visit = places.enter(rt, stream, IpAddr::V4(Ipv4Addr::LOCALHOST))?;
+    let visit = places.enter(rt, stream, IpAddr::V4(Ipv4Addr::LOCALHOST), 0)?;
     match viewer {
         Viewer::Drips(_, answers, open) => read_drops(rt, rt.alloc(), visit, answers, open),
         Viewer::AsksMuch => {
@@ -199,10 +213,10 @@ fn dripping_and_silent_viewers_are_left_and_an_asking_one_is_not(rt: HostRuntime
 
 #[test]
 fn a_connection_is_alone_where_no_other_is_open(rt: HostRuntime) {
-    let company = company_of(1);
-    assert!(rt; company.is_alone() && !company_of(0).is_alone() && !company_of(2).is_alone());
-    company.leave();
-    assert!(rt; !company.is_alone());
+    let connections = connections_of(1);
+    assert!(rt; connections.is_alone() && !connections_of(0).is_alone() && !connections_of(2).is_alone());
+    connections.leave();
+    assert!(rt; !connections.is_alone());
 }
 
 #[test]

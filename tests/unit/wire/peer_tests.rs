@@ -2,8 +2,7 @@
 
 use crate::fixtures::{is_same, is_same_text};
 use iiif_io::fakes::{FailingReader, FailingWriter};
-use iiif_peer_server::{Answers, serve_peer};
-use iiif_peer_wire::{Ask, Version, read_reply, write_ask};
+use iiif_peer_wire::{Answers, Ask, Version, read_reply, serve_peer, write_ask};
 use std::alloc::Global;
 
 /// Replies with the key itself, and refuses the second group. It counts what it answers.

@@ -1,9 +1,8 @@
 //! Keys with the versions of files in them, and asks for other versions.
 
 use crate::fixtures::{is_same, is_same_text};
-use iiif_peer_server::Answers;
 use iiif_peer_versions::{Compared, FileVersion, FileVersions, Notice};
-use iiif_peer_wire::{Ask, Version};
+use iiif_peer_wire::{Answers, Ask, Version};
 use std::alloc::{AllocError, Global};
 use std::sync::{Mutex, Wait};
 use std::test::Fail;
