@@ -1,8 +1,16 @@
-//! The services of a node side by side: its listeners, the thread that writes its log, and one that looks at other nodes.
+//! The services of a node side by side: its listeners, the control socket, and a thread that checks other nodes.
 #![tactic(auto)]
 
-pub use listeners::{Addresses, Listeners, run_logged, serve_all};
-pub use lookout::Lookout;
+pub use command::{Command, read_reply};
+pub use control::{Control, Controls, read_command, tell};
+pub use controller::{Controller, Ended, Step};
+pub use health_checker::HealthChecker;
+pub use listeners::{Addresses, AllPlaces, Listeners, Work, take_all};
+pub use starts::{Started, Starts};
 
+pub mod command;
+pub mod control;
+pub mod controller;
+mod health_checker;
 pub mod listeners;
-mod lookout;
+pub mod starts;

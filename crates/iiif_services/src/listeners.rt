@@ -1,9 +1,12 @@
 //! The addresses that are listened on, and what goes on beside them.
 
-use crate::lookout::Lookout;
-use iiif_io::Outlet;
-use iiif_listener::{Admission, Serve, Visit, serve_each, serve_listener, stop};
-use iiif_log::{Log, write_lines};
+ghost use Rattle.std.specs.Prelude.{◌≡◌, ◌+◌, ◌≤◌};
+ghost use Rattle.iiif_services.specs.Doors.{count_in};
+
+use crate::control::{Control, Controls};
+use crate::controller::Ended;
+use crate::health_checker::HealthChecker;
+use iiif_listener::{Admission, Door, Gateway, Inbox, Places, Refused, bind, stop, take_each};
 use std::alloc::{AllocError, Global};
 use std::io::ErrorKind;
 use std::net::{IpAddr, Net, TcpListener, TcpStream, ToSocketAddrs};
@@ -12,29 +15,33 @@ use std::thread::Threads;
 use std::time::{Clock, Duration};
 use std::{io, thread};
 
-/// How long is waited from one look to the next, in milliseconds.
+/// Time from one health check to the next, in milliseconds.
 const BETWEEN_LOOKS: u64 = 250;
 
-/// Addresses and ports, and who may come there.
+/// Addresses of listeners, and the clients that they admit.
 #[derive(Clone, Copy)]
 pub struct Addresses<'a> {
     pub viewers: &'a str,
     pub peers: Option<&'a str>,
     pub statistics: Option<&'a str>,
-    /// How many connections one address may have at a time at each listener: 0 stands for any number.
+    /// The path of the control socket.
+    pub control: Option<&'a str>,
+    /// The most connections of one address at a time, at each listener. 0 stands for any number.
     pub per_address: usize,
     /// The names and addresses of the only nodes whose connections are taken, where not all are.
     pub known: Option<&'a [(&'a str, &'a str)]>,
 }
 
-/// The listeners of a node: one for viewers, and perhaps one for other nodes and one for who asks for the statistics. And who may come
-/// there.
+/// The listeners of a node: one for viewers, and perhaps one for other nodes, one for statistics and a control socket; and the clients that
+/// they admit.
 #[derive(Drop)]
 pub struct Listeners {
     pub viewers: TcpListener,
     pub peers: Option<TcpListener>,
     pub statistics: Option<TcpListener>,
-    /// How many connections one address may have at a time at each of them: 0 stands for any number.
+    /// The control socket.
+    pub control: Option<Control>,
+    /// The most connections of one address at a time, at each of them. 0 stands for any number.
     pub per_address: usize,
     /// The only addresses from which other nodes' connections are taken, where not all are.
     pub known: Option<Vec<IpAddr>>,
@@ -42,18 +49,30 @@ pub struct Listeners {
     is_over: Mutex<bool>,
 }
 
-/// A listener at an address, where there is one.
+/// Binds a listener at an address, if one is given.
 fn bind_some<R: Net<Listener = TcpListener, Stream = TcpStream>>(
     rt: &R,
     address: Option<&str>,
 ) -> io::Result<Option<TcpListener>> {
     match address {
-        Some(address) => Ok(Some(TcpListener::bind(rt, address)?)),
+        Some(address) => Ok(Some(bind(rt, address)?)),
         None => Ok(None),
     }
 }
 
-/// The IP addresses of nodes. A name of which none is found has none.
+/// Binds the control socket at a path, if one is given.
+fn control_at<R: Controls>(
+    rt: &R,
+    alloc: Global,
+    path: Option<&str>,
+) -> io::Result<Option<Control>> {
+    match path {
+        Some(path) => Ok(Some(Control::new(rt.control(alloc, path)?)?)),
+        None => Ok(None),
+    }
+}
+
+/// Looks up the IP addresses of nodes. A name that isn't found has none.
 fn look_up_addresses<R: Net>(
     rt: &R,
     alloc: Global,
@@ -70,7 +89,7 @@ fn look_up_addresses<R: Net>(
     Ok(all)
 }
 
-/// The only IP addresses from which other nodes' connections are taken, where not all are.
+/// Looks up the only IP addresses from which other nodes' connections are taken, where not all are.
 fn look_up_known<R: Net>(
     rt: &R,
     alloc: Global,
@@ -83,8 +102,9 @@ fn look_up_known<R: Net>(
 }
 
 impl Listeners {
-    /// Listeners at these addresses. The names of other nodes are looked up now, where they are the only ones whose connections are taken.
-    pub fn bind<R: Net<Listener = TcpListener, Stream = TcpStream>>(
+    /// Binds listeners at these addresses. The names of other nodes are looked up now, where they are the only ones whose connections are
+    /// taken.
+    pub fn bind<R: Net<Listener = TcpListener, Stream = TcpStream> + Controls>(
         rt: &R,
         alloc: Global,
         addresses: &Addresses<'_>,
@@ -93,9 +113,10 @@ impl Listeners {
             return Err(io::Error::from(ErrorKind::OutOfMemory));
         };
         Ok(Listeners {
-            viewers: TcpListener::bind(rt, addresses.viewers)?,
+            viewers: bind(rt, addresses.viewers)?,
             peers: bind_some(rt, addresses.peers)?,
             statistics: bind_some(rt, addresses.statistics)?,
+            control: control_at(rt, alloc, addresses.control)?,
             per_address: addresses.per_address,
             known,
             is_over: Mutex::new(false),
@@ -107,13 +128,13 @@ impl Listeners {
         *self.is_over.lock(rt)
     }
 
-    /// Ends all, since one ended.
-    fn end<R: Wait>(&self, rt: &R) {
+    /// Ends all of them.
+    pub fn end<R: Wait>(&self, rt: &R) {
         *self.is_over.lock(rt) = true;
         self.stop();
     }
 
-    /// Who may come to the listeners, and which other nodes to theirs.
+    /// Returns whom the listeners admit, and whom the one of other nodes does.
     fn admissions(&self) -> (Admission<'_>, Admission<'_>) {
         let all = Admission {
             per_address: self.per_address,
@@ -129,7 +150,7 @@ impl Listeners {
         (all, nodes)
     }
 
-    /// Ends what each of them waits for.
+    /// Shuts each of them down.
     pub fn stop(&self) {
         stop(&self.viewers);
         if let Some(peers) = &self.peers {
@@ -138,151 +159,189 @@ impl Listeners {
         if let Some(statistics) = &self.statistics {
             stop(statistics);
         }
+        if let Some(control) = &self.control {
+            control.stop();
+        }
+    }
+
+    /// Counts the listeners whose connections are served.
+    pub fn doors(&self) -> u32
+        ensures { result ≡ 1 + count_in self.now.peers + count_in self.now.statistics }
+    {
+        1 + count_of(&self.peers) + count_of(&self.statistics)
     }
 }
 
-/// Serves a listener by a function until it ends, and then stops all. The second function is told of each connection that was closed
-/// unanswered.
-fn serve_beside<R, F, G>(
-    rt: &R,
-    alloc: Global,
-    serve: (&F, &G),
-    listener: &TcpListener,
-    admission: Admission<'_>,
-    all: &Listeners,
-) -> io::Result<()>
-where
-    R: Threads + Wait + Clock + Sync,
-    F: Fn(Visit<'_, R>) + Sync,
-    G: Fn(),
-    requires serve { F.IsAlwaysCallable serve.0.now }
-    requires refused { G.IsAlwaysCallable serve.1.now }
+/// Counts a listener that may be missing.
+fn count_of(listener: &Option<TcpListener>) -> u32
+    ensures count { result ≡ count_in listener.now }
+    ensures most { result ≤ 1 }
 {
-    let (serve, refused) = serve;
-    // However it ended, all others are stopped.
-    let ended = serve_each(rt, alloc, serve, refused, listener, admission);
-    all.end(rt);
-    ended
+    match listener {
+        Some(_) => 1,
+        None => 0,
+    }
 }
 
-/// Where no thread can be started.
-fn no_thread(listeners: &Listeners) -> io::Result<()> {
-    listeners.stop();
-    Err(io::Error::from(ErrorKind::WouldBlock))
+/// The places of each listener.
+#[derive(Drop)]
+pub struct AllPlaces {
+    pub viewers: Places,
+    pub peers: Places,
+    pub statistics: Places,
 }
 
-/// Has a lookout look every so often until the listeners are over.
-fn look_on<R, O>(rt: &R, alloc: Global, listeners: &Listeners, lookout: &O)
+impl AllPlaces {
+    /// Makes free places. One address may have so many of each listener's at a time: 0 stands for any number.
+    pub fn new(alloc: Global, per_address: usize) -> Result<AllPlaces, AllocError> {
+        Ok(AllPlaces {
+            viewers: Places::new(alloc, per_address)?,
+            peers: Places::new(alloc, per_address)?,
+            statistics: Places::new(alloc, per_address)?,
+        })
+    }
+
+    /// Counts the places that are taken.
+    pub fn taken<R: Wait>(&self, rt: &R) -> usize {
+        let nodes = self.viewers.taken(rt).saturating_add(self.peers.taken(rt));
+        nodes.saturating_add(self.statistics.taken(rt))
+    }
+
+    /// Shuts all connections down, whatever they do.
+    pub fn end_all<R: Wait>(&self, rt: &R) {
+        self.viewers.end_all(rt);
+        self.peers.end_all(rt);
+        self.statistics.end_all(rt);
+    }
+}
+
+/// Work that serves connections while the listeners take them.
+pub trait Work {
+    /// Does the work, and returns how it ended.
+    fn run(self) -> Ended;
+}
+
+/// Puts the connections of a listener into the inbox until the listener ends. One that fails ends all others; one that drains takes no more
+/// connections.
+fn take_beside<'p, R, W>(
+    rt: &'p R,
+    gateway: Gateway<'_>,
+    places: &'p Places,
+    inbox: &Inbox<'p, R>,
+    watch: &W,
+    all: &Listeners,
+)
 where
     R: Wait + Clock,
-    O: Lookout<R>,
+    W: Refused<R>,
+{
+    match take_each(rt, gateway, places, inbox, watch) {
+        // At once, so that who comes now is refused and isn't left waiting.
+        Ok(()) => stop(gateway.listener),
+        Err(_) => all.end(rt),
+    }
+    inbox.shut(rt);
+}
+
+/// Checks other nodes every so often until the listeners are over.
+fn check_on<R, O>(rt: &R, alloc: Global, listeners: &Listeners, checker: &O)
+where
+    R: Wait + Clock,
+    O: HealthChecker<R>,
 {
     for _ in rt.forever() {
         if listeners.is_over(rt) {
             return;
         }
-        lookout.look(rt, alloc);
+        checker.check(rt, alloc);
         thread::sleep(rt, Duration::from_millis(BETWEEN_LOOKS));
     }
 }
 
-/// Serves a listener by a service until it ends, and then stops all.
-fn serve_by<R, V>(
-    rt: &R,
-    alloc: Global,
-    service: &V,
-    listener: &TcpListener,
-    admission: Admission<'_>,
-    all: &Listeners,
-)
-where
-    R: Threads + Wait + Clock + Sync,
-    V: Serve<R> + Sync,
-{
-    // However it ended, all others are stopped.
-    let _ = serve_listener(rt, alloc, service, listener, admission);
-    all.end(rt);
-}
-
-/// Serves viewers by two functions, and other nodes and who asks for the statistics by a service each, where they have listeners, until a
-/// listener ends, which then stops the others; and answers once all connections have ended. Where a thread is missing for one of the
-/// listeners, it ends at once. The second function is told of the viewers' connections that were closed unanswered. The lookout has a
-/// thread of its own meanwhile; where none can be started, nobody looks.
-pub fn serve_all<R, F, K, P, S, O>(
-    rt: &R,
+/// Puts the connections of all listeners into the inbox, each listener in a thread of its own, while some work serves them; then ends the
+/// listeners, and returns once their threads have ended. Where a thread is missing for a listener, nothing is served. Each connection that
+/// is closed unanswered is reported. The health checker has a thread of its own; where none can be started, nothing is checked.
+pub fn take_all<'p, R, W, O, K>(
+    rt: &'p R,
     alloc: Global,
     listeners: &Listeners,
-    viewers: (&F, &K),
-    peers: (&P, Option<&O>),
-    readers: &S,
-) -> io::Result<()>
+    places: &'p AllPlaces,
+    inbox: &Inbox<'p, R>,
+    watch: &W,
+    checker: Option<&O>,
+    work: K,
+) -> Ended
 where
     R: Threads + Wait + Clock + Sync,
-    F: Fn(Visit<'_, R>) + Sync,
-    K: Fn() + Sync,
-    P: Serve<R> + Sync,
-    S: Serve<R> + Sync,
-    O: Lookout<R> + Sync,
-    requires viewer { F.IsAlwaysCallable viewers.0.now }
-    requires refused_viewer { K.IsAlwaysCallable viewers.1.now }
+    W: Refused<R> + Sync,
+    O: HealthChecker<R> + Sync,
+    K: Work + Drop,
 {
-    let (served, lookout) = peers;
     let (all, nodes) = listeners.admissions();
-    thread::scope(
-        thread::scope_env(),
-        rt,
-        |scope|
-            requires { F.IsAlwaysCallable viewers.0.now × K.IsAlwaysCallable viewers.1.now }
-        {
-            if let Some(listener) = &listeners.peers {
-                let started = scope.spawn(move || serve_by(
-                    rt, alloc, served, listener, nodes, listeners,
-                ));
-                if started.is_err() {
-                    return no_thread(listeners);
-                }
+    thread::scope(thread::scope_env(), rt, |scope| {
+        let viewers = Gateway {
+            door: Door::Viewers,
+            listener: &listeners.viewers,
+            admission: all,
+        };
+        let started = scope.spawn(move || take_beside(
+            rt,
+            viewers,
+            &places.viewers,
+            inbox,
+            watch,
+            listeners,
+        ));
+        if started.is_err() {
+            return no_thread(rt, listeners);
+        }
+        if let Some(listener) = &listeners.peers {
+            let peers = Gateway {
+                door: Door::Peers,
+                listener,
+                admission: nodes,
+            };
+            let started = scope.spawn(move || take_beside(
+                rt,
+                peers,
+                &places.peers,
+                inbox,
+                watch,
+                listeners,
+            ));
+            if started.is_err() {
+                return no_thread(rt, listeners);
             }
-            if let Some(listener) = &listeners.statistics {
-                let started = scope.spawn(move || serve_by(
-                    rt, alloc, readers, listener, all, listeners,
-                ));
-                if started.is_err() {
-                    return no_thread(listeners);
-                }
+        }
+        if let Some(listener) = &listeners.statistics {
+            let readers = Gateway {
+                door: Door::Statistics,
+                listener,
+                admission: all,
+            };
+            let started = scope.spawn(move || take_beside(
+                rt,
+                readers,
+                &places.statistics,
+                inbox,
+                watch,
+                listeners,
+            ));
+            if started.is_err() {
+                return no_thread(rt, listeners);
             }
-            if let Some(lookout) = lookout {
-                let _ = scope.spawn(move || look_on(rt, alloc, listeners, lookout));
-            }
-            serve_beside(rt, alloc, viewers, &listeners.viewers, all, listeners)
-        },
-    )
+        }
+        if let Some(checker) = checker {
+            let _ = scope.spawn(move || check_on(rt, alloc, listeners, checker));
+        }
+        let ended = work.run();
+        listeners.end(rt);
+        ended
+    })
 }
 
-/// Does some work while a thread of its own writes the lines of a log, and answers once the work ended and the last line is written.
-/// Where no thread can be started, the lines are written behind the work.
-pub fn run_logged<R, E, W>(
-    rt: &R,
-    alloc: Global,
-    log: &Log,
-    err: &mut E,
-    work: &W,
-) -> io::Result<()>
-where
-    R: Threads + Wait + Sync,
-    E: Outlet + Send,
-    W: Fn() -> io::Result<()>,
-    requires { W.IsAlwaysCallable work.now }
-{
-    let (_, ended) = thread::join(
-        rt,
-        || write_lines(rt, alloc, log, err),
-        ||
-            requires { W.IsAlwaysCallable work.now }
-        {
-            let ended = work();
-            log.close(rt);
-            ended
-        },
-    );
-    ended
+/// Ends the listeners, since a thread is missing for one.
+fn no_thread<R: Wait>(rt: &R, listeners: &Listeners) -> Ended {
+    listeners.end(rt);
+    Ended::Listener
 }
