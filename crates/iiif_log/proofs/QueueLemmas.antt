@@ -8,13 +8,13 @@ use Rattle.std.proofs.lemmas.List.Sums.{sum_by_push}
 use Rattle.iiif_log.specs.Laws.{Keeps, CountsAddUp}
 use Rattle.iiif_log.specs.Laws.Keeps.{none, kept, gone, said}
 use Rattle.iiif_io.specs.Counting.{capped}
-use Rattle.iiif_log.specs.Waiting.{Told, Waiting, line, lost_behind, next_of, left_of, lines_in, put_behind}
+use Rattle.iiif_log.specs.Waiting.{QueuedLine, Waiting, line, lost_behind, next_of, left_of, lines_in, put_behind}
 
 -- a count that is not the greatest goes up
 capped_is : (n : ℕ) → n < 2 ^ 64 → capped n ≡ n
 capped_is n small = omega arith
 
-pub put_keeps : (puts : List (List ℕ)) (taken : List Told) (w : Waiting) (text : List ℕ) → 0 < length text → w.lost + 1 < 2 ^ 64
+pub put_keeps : (puts : List (List ℕ)) (taken : List QueuedLine) (w : Waiting) (text : List ℕ) → 0 < length text → w.lost + 1 < 2 ^ 64
     → Keeps puts (taken ++ w.lines) w.lost → Keeps (puts ++ text ∷ []) (taken ++ (put_behind text w).lines) (put_behind text w).lost
 put_keeps puts taken w text some small k =
     elim (nat_lt (length w.lines) 1024)
@@ -28,7 +28,7 @@ put_keeps puts taken w text some small k =
       | false ↦ rw (capped_is (w.lost + 1) small) (gone puts (taken ++ w.lines) w.lost text k)
     ]
 
-pub take_keeps : (puts : List (List ℕ)) (taken lines : List Told) (lost : ℕ) (is_open : Bool) (l : Told) →
+pub take_keeps : (puts : List (List ℕ)) (taken lines : List QueuedLine) (lost : ℕ) (is_open : Bool) (l : QueuedLine) →
     next_of lines lost is_open ≡ line l
     → Keeps puts (taken ++ lines) lost
     → Keeps puts ((taken ++ l ∷ []) ++ (left_of lines (record { lines = lines; lost = lost; is_open = is_open })).lines)

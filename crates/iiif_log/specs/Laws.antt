@@ -4,7 +4,7 @@ use Rattle.std.specs.List.{slice_split, sum_by}
 use Rattle.iiif_log.specs.Escapes.{escaped}
 use Rattle.iiif_log.specs.Lines.{IsLineOf, cause_word, words_of}
 use Rattle.iiif_log.specs.Moments.{IsMomentText}
-use Rattle.iiif_log.specs.Waiting.{Told, Waiting, line, left_behind, lines_in, put_behind, told_next}
+use Rattle.iiif_log.specs.Waiting.{QueuedLine, Waiting, line, left_behind, lines_in, put_behind, told_next}
 use Rattle.iiif_log.specs.declared.answered.Answered.{Answered}
 use Rattle.iiif_log.specs.declared.answered.Outcome.{Outcome}
 use Rattle.iiif_log.specs.declared.answered.Outcome.TheVariants.{Whole, Cut}
@@ -41,23 +41,23 @@ LinesTellAnswers =
 
 -- Of the lines that were put, each is among those that are told, in order, or is counted where it was lost: before the next that is
 -- told, or among those that are not told of yet.
-pub data Keeps : List (List ℕ) → List Told → ℕ → Type 0 where
+pub data Keeps : List (List ℕ) → List QueuedLine → ℕ → Type 0 where
   none : Keeps [] [] 0
-  kept : (puts : List (List ℕ)) (told : List Told) (lost : ℕ) (text : List ℕ) → 0 < length text → Keeps puts told lost
+  kept : (puts : List (List ℕ)) (told : List QueuedLine) (lost : ℕ) (text : List ℕ) → 0 < length text → Keeps puts told lost
       → Keeps (puts ++ text ∷ []) (told ++ record { lost = lost; text = text } ∷ []) 0
-  gone : (puts : List (List ℕ)) (told : List Told) (lost : ℕ) (text : List ℕ) → Keeps puts told lost →
+  gone : (puts : List (List ℕ)) (told : List QueuedLine) (lost : ℕ) (text : List ℕ) → Keeps puts told lost →
       Keeps (puts ++ text ∷ []) told (lost + 1)
-  said : (puts : List (List ℕ)) (told : List Told) (lost : ℕ) → Keeps puts told lost →
+  said : (puts : List (List ℕ)) (told : List QueuedLine) (lost : ℕ) → Keeps puts told lost →
       Keeps puts (told ++ record { lost = lost; text = [] } ∷ []) 0
 
 -- It stays so where a line is put, and where one is taken.
 abbrev pub QueuesKeepLines : Type 0
 QueuesKeepLines =
-    ((puts : List (List ℕ)) (taken : List Told) (w : Waiting) (text : List ℕ) → 0 < length text → w.lost + 1 < 2 ^ 64
+    ((puts : List (List ℕ)) (taken : List QueuedLine) (w : Waiting) (text : List ℕ) → 0 < length text → w.lost + 1 < 2 ^ 64
     → Keeps puts (taken ++ w.lines) w.lost → Keeps (puts ++ text ∷ []) (taken ++ (put_behind text w).lines) (put_behind text w).lost)
-    × ((puts : List (List ℕ)) (taken : List Told) (w : Waiting) (l : Told) → told_next w ≡ line l
+    × ((puts : List (List ℕ)) (taken : List QueuedLine) (w : Waiting) (l : QueuedLine) → told_next w ≡ line l
     → Keeps puts (taken ++ w.lines) w.lost → Keeps puts ((taken ++ l ∷ []) ++ (left_behind w).lines) (left_behind w).lost)
 
 -- as many were put as are told, were lost before those, and are lost and not told of yet
 abbrev pub CountsAddUp : Type 0
-CountsAddUp = (puts : List (List ℕ)) (told : List Told) (lost : ℕ) → Keeps puts told lost → length puts ≡ sum_by lines_in told + lost
+CountsAddUp = (puts : List (List ℕ)) (told : List QueuedLine) (lost : ℕ) → Keeps puts told lost → length puts ≡ sum_by lines_in told + lost

@@ -6,23 +6,23 @@ use Rattle.iiif_log.specs.declared.queue.Taken.{Taken}
 use Rattle.iiif_log.specs.declared.queue.Taken.TheVariants as taken
 
 -- a line, and how many lines were lost right before it; no bytes where none came behind those
-pub record Told : Type 0 where
+pub record QueuedLine : Type 0 where
   pub lost : ℕ
   pub text : List ℕ
 
 -- the lines that wait, in order; how many were lost behind the last; whether more may come
 pub record Waiting : Type 0 where
-  pub lines : List Told
+  pub lines : List QueuedLine
   pub lost : ℕ
   pub is_open : Bool
 
 -- what is taken of a queue
 pub data Next : Type 0 where
-  line : Told → Next
+  line : QueuedLine → Next
   nothing : Next
   closed : Next
 
-abbrev pub line_view : Line → Told
+abbrev pub line_view : Line → QueuedLine
 line_view l = record { lost = l.lost; text = l.text.items }
 
 -- the most lines that wait
@@ -44,7 +44,7 @@ put_behind text w =
     else lost_behind w
 
 -- what is told next: the line that waits longest, else how many were lost
-abbrev pub next_of : List Told → ℕ → Bool → Next
+abbrev pub next_of : List QueuedLine → ℕ → Bool → Next
 next_of (l ∷ ls) lost is_open = line l
 next_of [] (suc n) is_open = line (record { lost = suc n; text = [] })
 next_of [] zero true = nothing
@@ -54,7 +54,7 @@ abbrev pub told_next : Waiting → Next
 told_next w = next_of w.lines w.lost w.is_open
 
 -- what is left then
-abbrev pub left_of : List Told → Waiting → Waiting
+abbrev pub left_of : List QueuedLine → Waiting → Waiting
 left_of (l ∷ ls) w = record w { lines = ls }
 left_of [] w = record w { lost = 0 }
 
@@ -72,5 +72,5 @@ taken_view taken.Nothing = nothing
 taken_view taken.Closed = closed
 
 -- how many lines a queue's line stands for, with those that were lost before it
-abbrev pub lines_in : Told → ℕ
+abbrev pub lines_in : QueuedLine → ℕ
 lines_in l = if length l.text == 0 then l.lost else l.lost + 1

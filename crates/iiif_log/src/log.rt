@@ -44,17 +44,17 @@ impl Log {
         self.put(rt, line_bytes(self.alloc, answered));
     }
 
-    /// The same of the line of a link to another node.
+    /// Puts the line of a link to another node behind the others, as [`Log::tell`] does.
     pub fn tell_turn<R: Wait>(&self, rt: &R, told: &PeerTurn<'_>) {
         self.put(rt, peer_line_bytes(self.alloc, told));
     }
 
-    /// The same of the line of a node that asked for another version of a file.
+    /// Puts the line of a node that asked for another version of a file behind the others, as [`Log::tell`] does.
     pub fn tell_other_version<R: Wait>(&self, rt: &R, told: &OtherVersion<'_>) {
         self.put(rt, version_line_bytes(self.alloc, told));
     }
 
-    /// The same of the line of a node that refuses asks for an image.
+    /// Puts the line of a node that refuses asks for an image behind the others, as [`Log::tell`] does.
     pub fn tell_refused_image<R: Wait>(&self, rt: &R, told: &RefusedImage<'_>) {
         self.put(rt, refused_line_bytes(self.alloc, told));
     }

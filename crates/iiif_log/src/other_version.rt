@@ -10,7 +10,7 @@ use std::alloc::Global;
 /// Room for a line of the usual length.
 const USUAL_LENGTH: usize = 64;
 
-/// What a line tells of a node that asked for another version of an image's file.
+/// An ask of a node for another version of an image's file, as a line tells it.
 #[derive(Clone, Copy)]
 pub struct OtherVersion<'a> {
     /// When it asked.

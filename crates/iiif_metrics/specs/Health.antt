@@ -1,12 +1,13 @@
 -- Whether the services of a node go on, as who asks for its health is told.
 use Rattle.std.specs.Prelude.{ℕ, Bool, true, false, ◌&&◌, List, [], ◌++◌, codes}
 use Rattle.iiif_metrics.specs.declared.health.Service.{Service}
-use Rattle.iiif_metrics.specs.declared.health.Service.TheVariants.{Unwanted, GoesOn, Gone}
+use Rattle.iiif_metrics.specs.declared.health.Service.TheVariants.{Unwanted, Starts, GoesOn, Gone}
 use Rattle.iiif_metrics.specs.declared.health.Services.{Services}
 
 -- nothing is missing of it
 abbrev pub goes_on : Service → Bool
 goes_on Unwanted = true
+goes_on Starts = false
 goes_on GoesOn = true
 goes_on Gone = false
 
@@ -17,6 +18,7 @@ all_go_on s = goes_on s.viewers && goes_on s.peers && goes_on s.statistics && go
 -- the line of a service of this name
 abbrev pub service_line : List ℕ → Service → List ℕ
 service_line name Unwanted = []
+service_line name Starts = name ++ codes " starting\n"
 service_line name GoesOn = name ++ codes " ok\n"
 service_line name Gone = name ++ codes " gone\n"
 

@@ -4,3 +4,4 @@ pub mod Health
 pub mod Links
 pub mod Page
 pub mod Serving
+pub mod Times

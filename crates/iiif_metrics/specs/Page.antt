@@ -3,6 +3,7 @@ use Rattle.std.specs.Prelude.{ℕ, List, ◌++◌, codes}
 use Rattle.iiif_metrics.specs.Exposition.{answer_family, cache_families, cut_family, families_text, family_text, held_families, image_families, open_family}
 use Rattle.iiif_metrics.specs.Exposition.{refused_family, server_families}
 use Rattle.iiif_metrics.specs.Links.{links_text, seconds_text}
+use Rattle.iiif_metrics.specs.Times.{times_text}
 use Rattle.iiif_metrics.specs.declared.metrics.PeerMetrics.{PeerMetrics}
 use Rattle.iiif_metrics.specs.declared.metrics.Metrics.{Metrics}
 
@@ -17,5 +18,6 @@ text_of m p =
     ++ family_text (cut_family m.counts.cut)
     ++ families_text (server_families (codes "iiif_") m.counts m.kept)
     ++ family_text (answer_family m.counts.whole)
+    ++ times_text m.times
     ++ seconds_text p.durations
     ++ links_text p.links.items

@@ -5,6 +5,7 @@ ghost use Rattle.iiif_io.specs.Counting.{capped};
 ghost use Rattle.iiif_metrics.specs.Counting.{cause_place, no_counts, place_of, listener_place, with_answer, with_closed, with_cut, with_opened};
 ghost use Rattle.iiif_metrics.specs.Counting.{with_refused};
 
+use crate::times::{AnswerKind, AnswerTimes};
 use iiif_log::CutCause;
 use std::sync::{Mutex, Wait};
 
@@ -36,7 +37,7 @@ pub struct Counts {
     pub refused: [u64; 3],
 }
 
-/// The place of a status among the counts.
+/// Returns the place of a status among the counts.
 fn place_of(status: u16) -> usize
     ensures { result ≡ place_of status }
 {
@@ -52,7 +53,7 @@ fn place_of(status: u16) -> usize
     }
 }
 
-/// The place of some visitors' connections among the counts.
+/// Returns the place of some visitors' connections among the counts.
 fn listener_place(visitors: Visitors) -> usize
     ensures { result ≡ listener_place visitors }
 {
@@ -63,7 +64,7 @@ fn listener_place(visitors: Visitors) -> usize
     }
 }
 
-/// The place of a cause among the counts.
+/// Returns the place of a cause among the counts.
 fn cause_place(cause: CutCause) -> usize
     ensures { result ≡ cause_place cause }
 {
@@ -77,7 +78,7 @@ fn cause_place(cause: CutCause) -> usize
 }
 
 impl Counts {
-    /// Nothing yet.
+    /// Begins with no counts.
     pub fn new() -> Counts
         ensures { result ≡ no_counts }
     {
@@ -90,7 +91,7 @@ impl Counts {
         }
     }
 
-    /// An answer of this status was sent whole, which took so many bytes.
+    /// Counts an answer of this status that was sent whole, with its bytes.
     pub fn count_answer(&mut self, status: u16, bytes: u64)
         ensures { self.new ≡ with_answer status bytes self.old }
     {
@@ -99,7 +100,7 @@ impl Counts {
         self.bytes = self.bytes.saturating_add(bytes);
     }
 
-    /// An answer was cut off for a cause behind so many bytes.
+    /// Counts an answer that was cut off for a cause, behind so many bytes.
     pub fn count_cut(&mut self, cause: CutCause, bytes: u64)
         ensures { self.new ≡ with_cut cause bytes self.old }
     {
@@ -108,7 +109,7 @@ impl Counts {
         self.bytes = self.bytes.saturating_add(bytes);
     }
 
-    /// A connection was opened.
+    /// Counts a connection that was opened.
     pub fn count_opened(&mut self, visitors: Visitors)
         ensures { self.new ≡ with_opened visitors self.old }
     {
@@ -116,7 +117,7 @@ impl Counts {
         self.open_now[place] = self.open_now[place].saturating_add(1);
     }
 
-    /// A connection was closed.
+    /// Counts a connection that was closed.
     pub fn count_closed(&mut self, visitors: Visitors)
         ensures { self.new ≡ with_closed visitors self.old }
     {
@@ -124,7 +125,7 @@ impl Counts {
         self.open_now[place] = self.open_now[place].saturating_sub(1);
     }
 
-    /// A connection was closed unanswered.
+    /// Counts a connection that was closed unanswered.
     pub fn count_refused(&mut self, visitors: Visitors)
         ensures { self.new ≡ with_refused visitors self.old }
     {
@@ -137,42 +138,54 @@ impl Counts {
 #[derive(Drop)]
 pub struct Tally {
     counts: Mutex<Counts>,
+    times: Mutex<AnswerTimes>,
 }
 
 impl Tally {
-    /// Nothing yet.
+    /// Begins with no counts.
     pub fn new() -> Tally {
         Tally {
             counts: Mutex::new(Counts::new()),
+            times: Mutex::new(AnswerTimes::new()),
         }
     }
 
-    /// An answer was sent whole.
+    /// Counts an answer that was sent whole.
     pub fn count_answer<R: Wait>(&self, rt: &R, status: u16, bytes: u64) {
         self.counts.lock(rt).count_answer(status, bytes);
     }
 
-    /// An answer was cut off.
+    /// Counts an answer that was cut off.
     pub fn count_cut<R: Wait>(&self, rt: &R, cause: CutCause, bytes: u64) {
         self.counts.lock(rt).count_cut(cause, bytes);
     }
 
-    /// A connection was opened.
+    /// Counts a connection that was opened.
     pub fn count_opened<R: Wait>(&self, rt: &R, visitors: Visitors) {
         self.counts.lock(rt).count_opened(visitors);
     }
 
-    /// A connection was closed.
+    /// Counts a connection that was closed.
     pub fn count_closed<R: Wait>(&self, rt: &R, visitors: Visitors) {
         self.counts.lock(rt).count_closed(visitors);
     }
 
-    /// A connection was closed unanswered.
+    /// Counts a connection that was closed unanswered.
     pub fn count_refused<R: Wait>(&self, rt: &R, visitors: Visitors) {
         self.counts.lock(rt).count_refused(visitors);
     }
 
-    /// The counts so far.
+    /// Counts a whole answer of a kind, which took so many microseconds.
+    pub fn count_time<R: Wait>(&self, rt: &R, kind: AnswerKind, micros: u64) {
+        self.times.lock(rt).count(kind, micros);
+    }
+
+    /// Returns how long whole answers took so far.
+    pub fn times<R: Wait>(&self, rt: &R) -> AnswerTimes {
+        *self.times.lock(rt)
+    }
+
+    /// Returns the counts so far.
     pub fn counts<R: Wait>(&self, rt: &R) -> Counts {
         *self.counts.lock(rt)
     }

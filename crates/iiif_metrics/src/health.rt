@@ -15,6 +15,8 @@ const USUAL_LENGTH: usize = 64;
 pub enum Service {
     /// The node was started without it.
     Unwanted,
+    /// The images are being opened.
+    Starts,
     GoesOn,
     Gone,
 }
@@ -28,17 +30,17 @@ pub struct Services {
     pub log: Service,
 }
 
-/// Whether nothing is missing of a service.
+/// Returns whether nothing is missing of a service.
 fn goes_on(service: Service) -> bool
     ensures { result ≡ goes_on service }
 {
     match service {
         Service::Unwanted | Service::GoesOn => true,
-        Service::Gone => false,
+        Service::Starts | Service::Gone => false,
     }
 }
 
-/// Whether each service goes on that the node was started with.
+/// Returns whether each service goes on that the node was started with.
 pub fn all_go_on(services: &Services) -> bool
     ensures { result ≡ all_go_on services.now }
 {
@@ -54,12 +56,13 @@ fn push_service(text: &mut String, name: &str, service: Service) -> Result<(), N
 {
     match service {
         Service::Unwanted => Ok(()),
+        Service::Starts => write!(text, "{name} starting\n"),
         Service::GoesOn => write!(text, "{name} ok\n"),
         Service::Gone => write!(text, "{name} gone\n"),
     }
 }
 
-/// A line for each service that the node was started with. The only error is lack of memory.
+/// Makes a line for each service that the node was started with. The only error is lack of memory.
 pub fn services_text(alloc: Global, services: &Services) -> Result<Vec<u8>, NoMemory>
     ensures { IfOk result (λ bytes. bytes.items ≡ health_text services.now) }
 {

@@ -8,6 +8,7 @@ pub use metrics::{
 };
 pub use serve::{Measure, serve_metrics};
 pub use text::{NoMemory, metrics_text};
+pub use times::{AnswerKind, AnswerTimes};
 
 pub mod counts;
 pub mod health;
@@ -15,3 +16,4 @@ mod links;
 pub mod metrics;
 pub mod serve;
 pub mod text;
+pub mod times;

@@ -89,7 +89,7 @@ fn push_link_samples(
     Ok(())
 }
 
-/// How a node's asks ended.
+/// Counts how a node's asks ended.
 fn ask_samples_of(asks: &Asks) -> [Sample<'static>; 5]
     ensures { map sample_view result ≡ ask_samples asks.now }
 {
@@ -111,7 +111,7 @@ fn push_asks(alloc: Global, text: &mut Vec<u8>, link: &LinkMetrics) -> Result<()
     Ok(())
 }
 
-/// The number for a state.
+/// Returns the number for a state.
 fn state_number(state: State) -> u64
     ensures { result ≡ state_number state }
 {
@@ -122,7 +122,7 @@ fn state_number(state: State) -> u64
     }
 }
 
-/// The number for a link: for its state, or for a node that is the one that asks.
+/// Returns the number for a link: for its state, or for a node that is the one that asks.
 fn link_number(link: &LinkMetrics) -> u64
     ensures { result ≡ link_number link.now }
 {
@@ -234,7 +234,7 @@ pub(crate) fn push_links(
     Ok(())
 }
 
-/// How many asks took at most so long.
+/// Counts the asks that took at most so long.
 fn bucket_samples_of(within: &[u64; 8], all: u64) -> [Sample<'static>; 9]
     ensures { map sample_view result ≡ bucket_samples within.now all }
 {

@@ -2,6 +2,7 @@
 
 use crate::counts::Counts;
 use crate::health::Services;
+use crate::times::AnswerTimes;
 use iiif_breaker::{Asks, Durations, State};
 use iiif_tables::Book;
 
@@ -27,11 +28,11 @@ pub struct HeldMetrics {
 /// The images that the start named.
 #[derive(Clone, Copy)]
 pub struct ImageMetrics {
-    /// Those that are served.
+    /// The images that are served.
     pub served: u64,
-    /// Those that can't be, and are left out.
+    /// The images that can't be served, and are left out.
     pub unfit: u64,
-    /// How often another node asked for another version of one of them, each node and image once.
+    /// How often another node asked for another version of one of them, each node and image once of a list.
     pub other_versions: u64,
 }
 
@@ -45,6 +46,7 @@ pub struct Metrics {
     pub counts: Counts,
     /// How many samples and sums of shared values were kept beside one answer, at most.
     pub kept: u64,
+    pub times: AnswerTimes,
 }
 
 /// How the asks of a node ended, and whether it is asked.

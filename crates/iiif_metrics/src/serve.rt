@@ -32,18 +32,18 @@ const ALLOW: Field<'static> = Field {
 
 /// Where the counters are read, as by a server of which they are told.
 pub trait Measure<R> {
-    /// The counts so far.
+    /// Returns the counts so far.
     fn measure(&self, rt: &R) -> Metrics;
 
-    /// The counts so far of asks of other nodes. The only error is lack of memory.
+    /// Returns the counts so far of asks of other nodes. The only error is lack of memory.
     fn peers(&self, rt: &R, alloc: Global) -> Result<PeerMetrics, NoMemory>;
 
-    /// Which services go on.
+    /// Returns which services go on.
     fn services(&self, rt: &R) -> Services;
 }
 
-/// A head and a body.
-fn joined(mut head: Vec<u8>, body: &[u8]) -> Result<Vec<u8>, NoMemory>
+/// Joins a head and a body.
+fn concat(mut head: Vec<u8>, body: &[u8]) -> Result<Vec<u8>, NoMemory>
     ensures { IfOk result (λ text. text.items ≡ head.items ++ body.now) }
 {
     head.extend_from_slice(body)?;
@@ -61,42 +61,42 @@ fn is_get(call: &Call) -> bool
     }
 }
 
-/// Whether a target is that of the counters.
+/// Returns whether a target is that of the counters.
 fn is_metrics(target: &[u8]) -> bool
     ensures { result ≡ bytes_eq target.now (codes "/metrics") }
 {
     target == b"/metrics".as_slice()
 }
 
-/// Whether a target is that of the services.
+/// Returns whether a target is that of the services.
 fn is_health(target: &[u8]) -> bool
     ensures { result ≡ bytes_eq target.now (codes "/health") }
 {
     target == b"/health".as_slice()
 }
 
-/// An answer without a body to a call of another target.
+/// Makes an answer without a body to a call of another target.
 fn other_target(alloc: Global) -> Result<Vec<u8>, NoMemory>
     ensures { IfOk result (λ text. text.items ≡ refusal_text 404 []) }
 {
     head_bytes(alloc, Status::NotFound, &[PLAIN], 0, true)
 }
 
-/// An answer without a body to a call of another method.
+/// Makes an answer without a body to a call of another method.
 fn other_method(alloc: Global) -> Result<Vec<u8>, NoMemory>
     ensures { IfOk result (λ text. text.items ≡ refusal_text 405 ((codes "Allow", codes "GET") ∷ [])) }
 {
     head_bytes(alloc, Status::MethodNotAllowed, &[PLAIN, ALLOW], 0, true)
 }
 
-/// An answer without a body to what is no head.
+/// Makes an answer without a body to bytes that are no head.
 fn no_head(alloc: Global) -> Result<Vec<u8>, NoMemory>
     ensures { IfOk result (λ text. text.items ≡ bad_text) }
 {
     head_bytes(alloc, Status::BadRequest, &[PLAIN], 0, true)
 }
 
-/// The answer that tells the counters.
+/// Makes the answer that tells the counters.
 fn metrics_message(
     alloc: Global,
     metrics: &Metrics,
@@ -107,10 +107,10 @@ fn metrics_message(
     let body = metrics_text(alloc, metrics, peers)?;
     let text = body.as_slice();
     let head = head_bytes(alloc, Status::Ok, &[TEXT_FORMAT], text.len() as u64, true)?;
-    joined(head, text)
+    concat(head, text)
 }
 
-/// The status that says whether all services go on.
+/// Returns the status that says whether all services go on.
 fn health_status(services: &Services) -> Status
     ensures { code_of result ≡ health_status services.now }
 {
@@ -121,7 +121,7 @@ fn health_status(services: &Services) -> Status
     }
 }
 
-/// The answer that tells which services go on.
+/// Makes the answer that tells which services go on.
 fn health_message(alloc: Global, services: &Services) -> Result<Vec<u8>, NoMemory>
     ensures { IfOk result (λ text. text.items ≡ health_answer services.now) }
 {
@@ -134,11 +134,11 @@ fn health_message(alloc: Global, services: &Services) -> Result<Vec<u8>, NoMemor
         text.len() as u64,
         true,
     )?;
-    joined(head, text)
+    concat(head, text)
 }
 
-/// The answer to a call: to GET of `/metrics` the counters, to GET of `/health` the services, 404 to GET of another target, 405 to another
-/// method. The only error is lack of memory.
+/// Makes the answer to a call: to GET of `/metrics` the counters, to GET of `/health` the services, 404 to GET of another target, 405 to
+/// another method. The only error is lack of memory.
 pub fn answer_bytes(alloc: Global, call: &Call, telling: &Telling) -> Result<Vec<u8>, NoMemory>
     ensures { IfOk result (λ text. text.items ≡ answer_text (method_text call.now.method) call.now.target.items telling.now) }
 {

@@ -12,6 +12,7 @@ ghost use Rattle.iiif_metrics.specs.declared.text.MetricKind.TheVariants as Metr
 use crate::counts::Counts;
 use crate::links::{push_links, push_seconds};
 use crate::metrics::{CacheMetrics, HeldMetrics, ImageMetrics, Metrics, PeerMetrics};
+use crate::times::push_times;
 pub use std::alloc::AllocError as NoMemory;
 use std::alloc::Global;
 use std::fmt::Write;
@@ -46,7 +47,7 @@ pub struct Sample<'a> {
     pub value: u64,
 }
 
-/// A number that only grows.
+/// Makes the family of a number that only grows.
 fn counter(name: &'static str, help: &'static str, value: u64) -> Row<'static>
     ensures { (front : List ℕ) → row_family front result ≡ single (front ++ name.now) help.now MetricKind.Counter value }
 {
@@ -59,7 +60,7 @@ fn counter(name: &'static str, help: &'static str, value: u64) -> Row<'static>
     }
 }
 
-/// A number that grows and falls.
+/// Makes the family of a number that grows and falls.
 fn gauge(name: &'static str, help: &'static str, value: u64) -> Row<'static>
     ensures { (front : List ℕ) → row_family front result ≡ single (front ++ name.now) help.now MetricKind.Gauge value }
 {
@@ -72,7 +73,7 @@ fn gauge(name: &'static str, help: &'static str, value: u64) -> Row<'static>
     }
 }
 
-/// The word for a type.
+/// Returns the word for a type.
 fn kind_text(kind: MetricKind) -> &'static str
     ensures { result.now ≡ kind_word kind }
 {
@@ -143,7 +144,7 @@ fn push_rows(text: &mut String, front: &str, rows: &[Row<'_>]) -> Result<(), NoM
     Ok(())
 }
 
-/// The counts of a cache and its flights, and of the values that are kept.
+/// Returns the counts of a cache and its flights, and of the values that are kept.
 fn cache_rows(cache: &CacheMetrics) -> [Row<'static>; 11]
     ensures { (front : List ℕ) → map (row_family front) result ≡ cache_families front cache.now }
 {
@@ -179,7 +180,7 @@ fn cache_rows(cache: &CacheMetrics) -> [Row<'static>; 11]
     ]
 }
 
-/// The images whose files are held in memory.
+/// Counts the images whose files are held in memory.
 fn held_rows(held: &HeldMetrics) -> [Row<'static>; 2]
     ensures { (front : List ℕ) → map (row_family front) result ≡ held_families front held.now }
 {
@@ -197,7 +198,7 @@ fn held_rows(held: &HeldMetrics) -> [Row<'static>; 2]
     ]
 }
 
-/// The images that the start named.
+/// Counts the images that the start named.
 fn image_rows(images: &ImageMetrics) -> [Row<'static>; 3]
     ensures { (front : List ℕ) → map (row_family front) result ≡ image_families front images.now }
 {
@@ -216,7 +217,7 @@ fn image_rows(images: &ImageMetrics) -> [Row<'static>; 3]
     ]
 }
 
-/// The counts of answers, whatever their status, and of what was kept beside one of them.
+/// Returns the counts of answers, whatever their status, and of what was kept beside one of them.
 fn server_rows(counts: &Counts, kept: u64) -> [Row<'static>; 2]
     ensures { (front : List ℕ) → map (row_family front) result ≡ server_families front counts.now kept }
 {
@@ -250,14 +251,14 @@ pub(crate) fn push_samples(
     Ok(())
 }
 
-/// A sample with these labels.
+/// Makes a sample with these labels.
 pub(crate) fn sample_of(labels: &'static str, value: u64) -> Sample<'static>
     ensures { sample_view result ≡ (labels.now, value) }
 {
     Sample { labels, value }
 }
 
-/// The answers of each status.
+/// Counts the answers of each status.
 fn status_samples_in(whole: &[u64; 8]) -> [Sample<'static>; 8]
     ensures { map sample_view result ≡ status_samples whole.now }
 {
@@ -273,7 +274,7 @@ fn status_samples_in(whole: &[u64; 8]) -> [Sample<'static>; 8]
     ]
 }
 
-/// The answers that were cut off for each cause.
+/// Counts the answers that were cut off for each cause.
 fn cut_samples_in(cut: &[u64; 5]) -> [Sample<'static>; 5]
     ensures { map sample_view result ≡ cut_samples cut.now }
 {
@@ -286,7 +287,7 @@ fn cut_samples_in(cut: &[u64; 5]) -> [Sample<'static>; 5]
     ]
 }
 
-/// The counts of each listener.
+/// Returns the counts of each listener.
 fn listener_samples_in(counts: &[u64; 3]) -> [Sample<'static>; 3]
     ensures { map sample_view result ≡ listener_samples counts.now }
 {
@@ -365,7 +366,7 @@ fn push_answers(text: &mut String, whole: &[u64; 8]) -> Result<(), NoMemory>
     )
 }
 
-/// All that is told, in the text format of version 0.0.4. The only error is lack of memory.
+/// Writes all that is told, in the text format of version 0.0.4. The only error is lack of memory.
 pub fn metrics_text(
     alloc: Global,
     metrics: &Metrics,
@@ -387,6 +388,7 @@ pub fn metrics_text(
         &server_rows(&metrics.counts, metrics.kept),
     )?;
     push_answers(&mut text, &metrics.counts.whole)?;
+    push_times(&mut text, &metrics.times)?;
     push_seconds(&mut text, &peers.durations)?;
     let mut text = text.into_bytes();
     push_links(alloc, &mut text, peers.links.as_slice())?;

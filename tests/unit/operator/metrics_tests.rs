@@ -4,7 +4,7 @@ use crate::fixtures::{has_end, has_start, is_same, is_same_text, is_unwanted};
 use iiif_breaker::{Asks, Durations, State};
 use iiif_io::fakes::{FailingReader, FailingWriter};
 use iiif_metrics::{
-    CacheMetrics, Counts, HeldMetrics, ImageMetrics, LinkMetrics, Measure, Metrics, NoMemory, PeerMetrics,
+    AnswerKind, AnswerTimes, CacheMetrics, Counts, HeldMetrics, ImageMetrics, LinkMetrics, Measure, Metrics, NoMemory, PeerMetrics,
     Service, Services, metrics_text, serve_metrics,
 };
 use iiif_tables::Book;
@@ -55,9 +55,29 @@ fn cache(first: u64) -> CacheMetrics {
     }
 }
 
+/// How long answers took: of images and informations in numbers of each their own, and one other that took 7 ms.
+fn times() -> AnswerTimes {
+    let mut times = AnswerTimes {
+        image: Durations {
+            within: [51, 52, 53, 54, 55, 56, 57, 58],
+            all: 59,
+            micros: 60,
+        },
+        info: Durations {
+            within: [61, 62, 63, 64, 65, 66, 67, 68],
+            all: 69,
+            micros: 70,
+        },
+        other: Durations::new(),
+    };
+    times.count(AnswerKind::Other, 7_000);
+    times
+}
+
 /// All counters.
 fn metrics() -> Metrics {
     Metrics {
+        times: times(),
         tiles: cache(100),
         sums: cache(200),
         images: ImageMetrics {
@@ -183,6 +203,41 @@ iiif_answers_total{status=\"405\"} 5
 iiif_answers_total{status=\"500\"} 6
 iiif_answers_total{status=\"501\"} 7
 iiif_answers_total{status=\"other\"} 8
+# HELP iiif_answer_seconds How long whole answers took, from their head to their last byte.
+# TYPE iiif_answer_seconds histogram
+iiif_answer_seconds_bucket{kind=\"image\",le=\"0.001\"} 51
+iiif_answer_seconds_bucket{kind=\"image\",le=\"0.005\"} 52
+iiif_answer_seconds_bucket{kind=\"image\",le=\"0.01\"} 53
+iiif_answer_seconds_bucket{kind=\"image\",le=\"0.05\"} 54
+iiif_answer_seconds_bucket{kind=\"image\",le=\"0.1\"} 55
+iiif_answer_seconds_bucket{kind=\"image\",le=\"0.5\"} 56
+iiif_answer_seconds_bucket{kind=\"image\",le=\"1\"} 57
+iiif_answer_seconds_bucket{kind=\"image\",le=\"10\"} 58
+iiif_answer_seconds_bucket{kind=\"image\",le=\"+Inf\"} 59
+iiif_answer_seconds_sum{kind=\"image\"} 60e-6
+iiif_answer_seconds_count{kind=\"image\"} 59
+iiif_answer_seconds_bucket{kind=\"info\",le=\"0.001\"} 61
+iiif_answer_seconds_bucket{kind=\"info\",le=\"0.005\"} 62
+iiif_answer_seconds_bucket{kind=\"info\",le=\"0.01\"} 63
+iiif_answer_seconds_bucket{kind=\"info\",le=\"0.05\"} 64
+iiif_answer_seconds_bucket{kind=\"info\",le=\"0.1\"} 65
+iiif_answer_seconds_bucket{kind=\"info\",le=\"0.5\"} 66
+iiif_answer_seconds_bucket{kind=\"info\",le=\"1\"} 67
+iiif_answer_seconds_bucket{kind=\"info\",le=\"10\"} 68
+iiif_answer_seconds_bucket{kind=\"info\",le=\"+Inf\"} 69
+iiif_answer_seconds_sum{kind=\"info\"} 70e-6
+iiif_answer_seconds_count{kind=\"info\"} 69
+iiif_answer_seconds_bucket{kind=\"other\",le=\"0.001\"} 0
+iiif_answer_seconds_bucket{kind=\"other\",le=\"0.005\"} 0
+iiif_answer_seconds_bucket{kind=\"other\",le=\"0.01\"} 1
+iiif_answer_seconds_bucket{kind=\"other\",le=\"0.05\"} 1
+iiif_answer_seconds_bucket{kind=\"other\",le=\"0.1\"} 1
+iiif_answer_seconds_bucket{kind=\"other\",le=\"0.5\"} 1
+iiif_answer_seconds_bucket{kind=\"other\",le=\"1\"} 1
+iiif_answer_seconds_bucket{kind=\"other\",le=\"10\"} 1
+iiif_answer_seconds_bucket{kind=\"other\",le=\"+Inf\"} 1
+iiif_answer_seconds_sum{kind=\"other\"} 7000e-6
+iiif_answer_seconds_count{kind=\"other\"} 1
 # HELP iiif_peer_ask_seconds How long asks of other nodes took.
 # TYPE iiif_peer_ask_seconds histogram
 iiif_peer_ask_seconds_bucket{le=\"0.001\"} 21

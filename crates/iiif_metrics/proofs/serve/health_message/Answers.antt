@@ -1,4 +1,4 @@
 use Rattle.iiif_metrics.proofs.serve.health_message.Goals as goal
 
 pub returns : goal.returns
-returns c = rw (c.in_ok-head.ensures, c.health_status.ensures, c.as_slice-text.ensures.value, c.in_ok-body.ensures) at c.joined.ensures
+returns c = rw (c.in_ok-head.ensures, c.health_status.ensures, c.as_slice-text.ensures.value, c.in_ok-body.ensures) at c.concat.ensures

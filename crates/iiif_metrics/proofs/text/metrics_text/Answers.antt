@@ -7,6 +7,7 @@ returns c = rw (
   c.as_slice.ensures.value,
   c.into_bytes-text.ensures.value,
   c.in_ok-push_seconds.ensures,
+  c.in_ok-push_times.ensures,
   c.in_ok-push_answers.ensures,
   c.in_ok-push_rows-5.ensures,
   c.server_rows.ensures (codes "iiif_"),
