@@ -1,4 +1,4 @@
-//! What to do about a file that the server can't serve, in plain words.
+//! Advice on a file that the server can't serve, in plain words.
 #![tactic(auto)]
 
 ghost use Rattle.std.specs.Prelude.{◌≡◌, true, nat_eq};
@@ -8,7 +8,7 @@ ghost use Rattle.iiif_advice.specs.Lines.{is_line_byte, field_of, cause_of};
 use iiif_tiff::tag;
 use iiif_tiff_read::OpenFault;
 
-/// What to do about a file whose field of this tag has a value that isn't read.
+/// Returns the advice on a file whose field of this tag has a value that isn't read.
 fn unsupported(tag: u16) -> &'static str
     ensures one_line { list_all is_line_byte result.now ≡ true }
     ensures named { starts_with nat_eq result.now (field_of tag) ≡ true }
@@ -43,7 +43,7 @@ fn unsupported(tag: u16) -> &'static str
     }
 }
 
-/// What to do about a file that is refused: one line, without its end.
+/// Returns the advice on a file that is refused: one line, without its end.
 pub fn advice(fault: &OpenFault) -> &'static str
     ensures one_line { list_all is_line_byte result.now ≡ true }
     ensures named { starts_with nat_eq result.now (cause_of fault.now) ≡ true }

@@ -3,6 +3,7 @@
 ghost use Rattle.std.specs.Prelude.{◌≡◌, ◌<◌, ◌≤◌, ◌^◌, IfOk, IfSome};
 
 use clap::{Arg, ArgAction, ArgMatches, Command};
+use iiif_fixity::{Bag, ManifestFault};
 use iiif_image_list::{Fault, FolderFault, FolderImage, ImageList, ListFault};
 use iiif_request::numerals::numeral;
 use std::alloc::Global;
@@ -72,6 +73,16 @@ const PER_ADDRESS: u64 = 0;
 
 const MOST_PER_ADDRESS: u64 = 64;
 
+/// How long calls at work are waited for in a drain where no number is given, in seconds, and the most that may be.
+const DRAIN_SECONDS: u64 = 60;
+
+const MOST_DRAIN_SECONDS: u64 = 3_600;
+
+/// The bytes of a record at most where no number is given, and the most that may be.
+const RECORD_BYTES: u64 = 1 << 30;
+
+const MOST_RECORD_BYTES: u64 = 1 << 40;
+
 /// The name of a node where none is given, and the most bytes of one.
 const OWN_NAME: &str = "self";
 
@@ -87,7 +98,7 @@ const MOST_PORT: u64 = 65_535;
 const MOST_PEERS: usize = 63;
 
 /// The options that take one text each: the name, what the text is, and the help.
-static OPTIONS: [(&str, &str, &str); 19] = [
+static OPTIONS: [(&str, &str, &str); 25] = [
     ("base", "URL", "the URL that begins each image's"),
     ("edge", "PIXELS", "the edge of a tile, 256 if left out"),
     (
@@ -114,6 +125,11 @@ static OPTIONS: [(&str, &str, &str); 19] = [
         "hold",
         "BYTES",
         "a file of at most so many bytes is held in memory, 0 if left out",
+    ),
+    (
+        "manifest",
+        "FILE",
+        "hold a file only if it has the SHA-256 digest that this manifest lists",
     ),
     (
         "band",
@@ -171,6 +187,31 @@ static OPTIONS: [(&str, &str, &str); 19] = [
         "ADDR",
         "answer GET /metrics at this address and port",
     ),
+    (
+        "control",
+        "PATH",
+        "make a socket at this path, at which the server is told what to do",
+    ),
+    (
+        "drain-seconds",
+        "SECONDS",
+        "how long calls at work are waited for in a drain, 60 if left out",
+    ),
+    (
+        "tell",
+        "PATH",
+        "tell the server of this socket a word: status, drain, reload or stop",
+    ),
+    (
+        "record",
+        "FILE",
+        "write a line for each step of the caches to this file",
+    ),
+    (
+        "record-bytes",
+        "BYTES",
+        "the most bytes of that file, 1073741824 if left out",
+    ),
 ];
 
 /// The options that take nothing: the name, and the help.
@@ -222,6 +263,8 @@ pub enum LineFault {
     MinRate,
     #[error("per-address")]
     PerAddress,
+    #[error("drain-seconds")]
+    DrainSeconds,
     #[error("image")]
     Image,
     /// The file of the list of images can't be read.
@@ -242,10 +285,25 @@ pub enum LineFault {
     /// An image's name has no room for the version of its file.
     #[error("image")]
     LongName,
+    /// The manifest can't be read.
+    #[error("manifest")]
+    UnreadManifest,
+    /// A line of the manifest is at fault.
+    #[error("manifest")]
+    Manifest(ManifestFault),
+    /// There is a manifest, no file is held, and no image is checked.
+    #[error("manifest")]
+    ManifestAlone,
     #[error("peer")]
     Peer,
+    /// A record's bytes are wrong, or it is none of a server's.
+    #[error("record")]
+    Record,
     #[error("mode")]
     Mode,
+    /// A server that runs is to be told something, which is no order, or another option stands beside it.
+    #[error("tell")]
+    Tell,
     #[error("memory")]
     NoMemory,
 }
@@ -269,18 +327,30 @@ pub enum Mode<'a> {
         stats: Option<&'a str>,
         /// Whether connections of other nodes are closed that come from no other node's address.
         peer_only: bool,
+        /// The path of the socket at which the server is told what to do.
+        control: Option<&'a str>,
+        /// The file of the record of its steps, and the most bytes that it gets.
+        record: Option<(&'a str, u64)>,
     },
     Check,
 }
 
-/// What names images beside the words: the text of the list, and the images of the folder.
+/// A word for a server that runs, and the path of its socket.
+#[derive(Clone, Copy, PartialEq, Eq)]
+pub struct Telling<'a> {
+    pub path: &'a str,
+    pub word: &'a str,
+}
+
+/// Texts of files that the words name: of the list of images, the images of the folder, and the manifest, if there is one.
 #[derive(Clone, Copy)]
 pub struct Listed<'t> {
     pub list: &'t [u8],
     pub folder: &'t [FolderImage],
+    pub bag: Option<Bag<'t>>,
 }
 
-/// What bounds those whom a node serves and asks.
+/// Limits of those whom a node serves and asks.
 #[derive(Clone, Copy, PartialEq, Eq)]
 pub struct Limits {
     /// How long an ask of another node may take as a whole, in milliseconds, from 10 to 60,000.
@@ -289,9 +359,11 @@ pub struct Limits {
     pub min_rate: u64,
     /// How many connections of one address a listener has at a time, or 0 for any number.
     pub per_address: usize,
+    /// How long calls at work are waited for in a drain, in seconds, up to 3,600.
+    pub drain_seconds: u64,
 }
 
-/// What the words ask for.
+/// The options of the words.
 #[derive(Drop)]
 pub struct Options<'a> {
     pub base: &'a str,
@@ -304,6 +376,8 @@ pub struct Options<'a> {
     pub cache_entries: NonZeroUsize,
     /// The bytes of an image's file up to which it is held in memory.
     pub hold: u64,
+    /// The manifest that lists the digests of files that are held, if there is one.
+    pub bag: Option<Bag<'a>>,
     /// The rows of a band.
     pub band: u32,
     /// The workers of a request.
@@ -328,19 +402,19 @@ pub struct Options<'a> {
     pub ghost shares: { (1 ≤ band) × (band ≤ 16384) × (1 ≤ workers) × (workers ≤ 16) },
 }
 
-/// An option that takes one text.
+/// Makes an option that takes one text.
 fn text_option<'a>(alloc: Global, name: &'a str, value: &'a str, help: &'a str) -> Arg<'a> {
     let option = Arg::new(alloc, name).long(name).action(ArgAction::Set);
     option.value_name(value).help(help)
 }
 
-/// An option that takes nothing.
+/// Makes an option that takes nothing.
 fn flag<'a>(alloc: Global, name: &'a str, help: &'a str) -> Arg<'a> {
     let option = Arg::new(alloc, name).long(name);
     option.action(ArgAction::SetTrue).help(help)
 }
 
-/// The option of the list of images.
+/// Makes the option of the list of images.
 fn list_option<'a>(alloc: Global) -> Arg<'a> {
     Arg::new(alloc, "list")
         .long("images")
@@ -349,7 +423,7 @@ fn list_option<'a>(alloc: Global) -> Arg<'a> {
         .help("a text with a line NAME=FILE for each of further images")
 }
 
-/// The option of other nodes.
+/// Makes the option of other nodes.
 fn peer_option<'a>(alloc: Global) -> Arg<'a> {
     Arg::new(alloc, "peer")
         .long("peer")
@@ -358,7 +432,7 @@ fn peer_option<'a>(alloc: Global) -> Arg<'a> {
         .help("another node's name, and the address and port where it answers nodes")
 }
 
-/// The words that are no option.
+/// Makes the words that are no option.
 fn image_words<'a>(alloc: Global) -> Arg<'a> {
     Arg::new(alloc, "images")
         .num_args(0..)
@@ -366,7 +440,7 @@ fn image_words<'a>(alloc: Global) -> Arg<'a> {
         .help("an image's name and its TIFF file, or :sample")
 }
 
-/// The command without options.
+/// Makes the command without options.
 fn bare_command<'a>(alloc: Global) -> Command<'a> {
     Command::new(alloc, "iiif_serve")
         .version("1.0.0")
@@ -374,7 +448,7 @@ fn bare_command<'a>(alloc: Global) -> Command<'a> {
         .no_binary_name(true)
 }
 
-/// The command with the options that take one text each.
+/// Makes the command with the options that take one text each.
 fn command_of_texts<'a>(alloc: Global) -> Result<Command<'a>, clap::Error> {
     let mut command = bare_command(alloc);
     for (name, value, help) in OPTIONS.iter() {
@@ -383,7 +457,7 @@ fn command_of_texts<'a>(alloc: Global) -> Result<Command<'a>, clap::Error> {
     Ok(command)
 }
 
-/// The same, with the options that take nothing.
+/// Makes the command of all options: those that take a text, and those that take nothing.
 fn command_of_flags<'a>(alloc: Global) -> Result<Command<'a>, clap::Error> {
     let mut command = command_of_texts(alloc)?;
     for (name, help) in FLAGS.iter() {
@@ -392,7 +466,7 @@ fn command_of_flags<'a>(alloc: Global) -> Result<Command<'a>, clap::Error> {
     Ok(command)
 }
 
-/// The command with its options.
+/// Makes the command with its options.
 fn command<'a>(alloc: Global) -> Result<Command<'a>, clap::Error> {
     let command = command_of_flags(alloc)?;
     let command = command.arg(list_option(alloc))?;
@@ -400,12 +474,12 @@ fn command<'a>(alloc: Global) -> Result<Command<'a>, clap::Error> {
     Ok(command.arg(image_words(alloc))?)
 }
 
-/// What the words say, as the parser has it.
+/// Parses the words.
 pub fn matches<'a, S: AsStr>(alloc: Global, words: &'a [S]) -> Result<ArgMatches<'a>, clap::Error> {
     command(alloc)?.try_get_matches_from(words)
 }
 
-/// A whole number of up to thirteen digits, from 1 to a greatest one.
+/// Reads a whole number of up to thirteen digits, from 1 to a greatest one.
 fn number(text: Option<&str>, default: u64, most: u64) -> Option<u32>
     ensures { IfSome result (λ n. (1 ≤ n) × (n ≤ most)) }
 {
@@ -419,7 +493,7 @@ fn number(text: Option<&str>, default: u64, most: u64) -> Option<u32>
     u32::try_from(value).ok()
 }
 
-/// The edge and the greatest side. An edge is compared with the greatest side only where that is a number within its limits.
+/// Reads the edge and the greatest side. An edge is compared with the greatest side only where that is a number within its limits.
 fn sides(edge: Option<&str>, max: Option<&str>) -> Result<(u32, u32), LineFault>
     ensures { IfOk result (λ s. (1 ≤ s.0) × (s.0 ≤ 1024) × (s.0 ≤ s.1) × (s.1 ≤ 16384)) }
 {
@@ -434,7 +508,7 @@ fn sides(edge: Option<&str>, max: Option<&str>) -> Result<(u32, u32), LineFault>
     }
 }
 
-/// So many bytes: a whole number of up to thirteen digits, within its limit.
+/// Reads a number of bytes: a whole number of up to thirteen digits, within its limit.
 fn bytes(text: Option<&str>, default: u64, most: u64) -> Option<u64>
     ensures { IfSome result (λ n. n ≤ most) }
 {
@@ -448,13 +522,13 @@ fn bytes(text: Option<&str>, default: u64, most: u64) -> Option<u64>
     Some(value)
 }
 
-/// How many there are at most of something: a whole number from 1 to a greatest one.
+/// Reads how many there are at most of something: a whole number from 1 to a greatest one.
 fn most(text: Option<&str>, default: u64, greatest: u64) -> Option<NonZeroUsize> {
     NonZeroUsize::new(number(text, default, greatest)? as usize)
 }
 
-/// The names and files of the images of the words, of the list behind them, and of the folder behind that: at least one, each name of its
-/// own and within its limit.
+/// Returns the names and files of the images of the words, of the list behind them, and of the folder behind that: at least one, each name
+/// of its own and within its limit.
 fn images<'t, 'a: 't>(
     alloc: Global,
     words: &[&'a str],
@@ -495,7 +569,7 @@ fn images<'t, 'a: 't>(
     }
 }
 
-/// The same images, where each name has room for the version of its file, as `are_versioned` asks for.
+/// Returns the images as they are, once each name has room for the version of its file, where `are_versioned` asks for that.
 fn with_room<'t>(
     images: Vec<(&'t str, &'t str)>,
     are_versioned: bool,
@@ -507,12 +581,12 @@ fn with_room<'t>(
     Ok(images)
 }
 
-/// Whether a text may name a node.
+/// Returns whether a text may name a node.
 fn is_node_name(text: &str) -> bool {
     !text.is_empty() && text.len() <= MOST_NAME
 }
 
-/// Whether a text ends in `:` and a port of 1 to 65,535. What stands before them is for the system to find.
+/// Returns whether a text ends in `:` and a port of 1 to 65,535. What stands before them is for the system to find.
 fn has_port(address: &str) -> bool {
     let Some((_, port)) = address.rsplit_once(':') else {
         return false;
@@ -523,7 +597,7 @@ fn has_port(address: &str) -> bool {
     }
 }
 
-/// The names and addresses of other nodes: at most 63, each name of its own and within its limit, and none this node's, and each
+/// Reads the names and addresses of other nodes: at most 63, each name of its own and within its limit, and none this node's, and each
 /// address with a port.
 fn peers<'t, 'a: 't>(
     alloc: Global,
@@ -551,7 +625,7 @@ fn peers<'t, 'a: 't>(
     Ok(peers)
 }
 
-/// What a node may take of the machine: the bytes of a file that is held in memory, the rows of a band, the workers of a request, the files
+/// A node's share of the machine: the bytes of a file that is held in memory, the rows of a band, the workers of a request, the files
 /// that stay open, and the memory that is written to at the start.
 struct Shares {
     hold: u64,
@@ -562,7 +636,7 @@ struct Shares {
     ghost within: { (1 ≤ band) × (band ≤ 16384) × (1 ≤ workers) × (workers ≤ 16) },
 }
 
-/// What a node may take of the machine, or the first of it that is wrong.
+/// Reads a node's share of the machine, or finds the first of it that is wrong.
 fn shares_in(matches: &ArgMatches<'_>) -> Result<Shares, LineFault> {
     let Some(hold) = bytes(matches.get_str("hold"), HOLD, MOST_HOLD) else {
         return Err(LineFault::Hold);
@@ -592,7 +666,7 @@ fn shares_in(matches: &ArgMatches<'_>) -> Result<Shares, LineFault> {
     })
 }
 
-/// How long an ask of another node may take: a whole number of milliseconds within its limits.
+/// Reads how long an ask of another node may take: a whole number of milliseconds within its limits.
 fn peer_timeout(text: Option<&str>) -> Option<u32> {
     let timeout = number(text, PEER_TIMEOUT, MOST_PEER_TIMEOUT)?;
     if u64::from(timeout) < LEAST_PEER_TIMEOUT {
@@ -601,7 +675,7 @@ fn peer_timeout(text: Option<&str>) -> Option<u32> {
     Some(timeout)
 }
 
-/// What bounds those whom a node serves and asks, or the first of it that is wrong.
+/// Reads the limits of those whom a node serves and asks, or finds the first of them that is wrong.
 fn limits_in(matches: &ArgMatches<'_>) -> Result<Limits, LineFault> {
     let Some(peer_timeout) = peer_timeout(matches.get_str("peer-timeout")) else {
         return Err(LineFault::PeerTimeout);
@@ -616,23 +690,39 @@ fn limits_in(matches: &ArgMatches<'_>) -> Result<Limits, LineFault> {
     ) else {
         return Err(LineFault::PerAddress);
     };
+    let Some(drain_seconds) = bytes(
+        matches.get_str("drain-seconds"),
+        DRAIN_SECONDS,
+        MOST_DRAIN_SECONDS,
+    ) else {
+        return Err(LineFault::DrainSeconds);
+    };
     Ok(Limits {
         peer_timeout,
         min_rate,
         per_address: per_address as usize,
+        drain_seconds,
     })
 }
 
-/// The names and files of the images of the words, and of what is listed behind them.
+/// Returns the names and files of the images of the words, and of what is listed behind them.
 fn images_in<'t, 'a: 't>(
     alloc: Global,
     matches: &ArgMatches<'a>,
-    listed: Result<Listed<'t>, LineFault>,
+    listed: Listed<'t>,
 ) -> Result<Vec<(&'t str, &'t str)>, LineFault> {
-    images(alloc, matches.get_strs("images").unwrap_or(&[]), listed?)
+    images(alloc, matches.get_strs("images").unwrap_or(&[]), listed)
 }
 
-/// This node's name.
+/// Returns the manifest, where there is one: then files are held, or images are checked.
+fn bag_in<'t>(listed: Listed<'t>, hold: u64, is_check: bool) -> Result<Option<Bag<'t>>, LineFault> {
+    if listed.bag.is_some() && hold == 0 && !is_check {
+        return Err(LineFault::ManifestAlone);
+    }
+    Ok(listed.bag)
+}
+
+/// Returns this node's name.
 fn name_in<'a>(matches: &ArgMatches<'a>) -> &'a str {
     match matches.get_str("name") {
         Some(name) => name,
@@ -640,7 +730,7 @@ fn name_in<'a>(matches: &ArgMatches<'a>) -> &'a str {
     }
 }
 
-/// The names and addresses of the nodes beside the one of this name.
+/// Reads the names and addresses of the nodes beside the one of this name.
 fn peers_in<'t, 'a: 't>(
     alloc: Global,
     matches: &ArgMatches<'a>,
@@ -649,8 +739,8 @@ fn peers_in<'t, 'a: 't>(
     peers(alloc, own, matches.get_strs("peer").unwrap_or(&[]))
 }
 
-/// What the words and what is listed beside them ask for beside this base URL of theirs, or the first thing that is wrong with them. Where
-/// the list or the folder can't be read, that comes in its place, at the images.
+/// Reads the options of the words and of the images that are listed beside them, with this base URL, or finds the first of them that is
+/// wrong. Where the list or the folder can't be read, that comes in its place, at the images.
 pub fn options_in<'t, 'a: 't>(
     alloc: Global,
     matches: &ArgMatches<'a>,
@@ -682,8 +772,10 @@ pub fn options_in<'t, 'a: 't>(
         touch_bytes,
     } = shares_in(matches)?;
     let limits = limits_in(matches)?;
+    let listed = listed?;
     let peer_versions = matches.get_flag("peer-versions");
     let images = with_room(images_in(alloc, matches, listed)?, peer_versions)?;
+    let bag = bag_in(listed, hold, matches.get_flag("check"))?;
     let name = name_in(matches);
     let peers = peers_in(alloc, matches, name)?;
     Ok(Options {
@@ -694,6 +786,7 @@ pub fn options_in<'t, 'a: 't>(
         cache_bytes,
         cache_entries,
         hold,
+        bag,
         band,
         workers,
         open_files,
@@ -708,7 +801,40 @@ pub fn options_in<'t, 'a: 't>(
     })
 }
 
-/// How the program is run: exactly one way, with the options that go with it.
+/// Reads the word for a server that runs, where the words ask for that: they name its socket, the word, and no way in which the program is
+/// run.
+pub fn telling_in<'a>(matches: &ArgMatches<'a>) -> Result<Option<Telling<'a>>, LineFault> {
+    let Some(path) = matches.get_str("tell") else {
+        return Ok(None);
+    };
+    let is_run = matches.get_str("one").is_some() || matches.get_str("listen").is_some();
+    if is_run || matches.get_str("control").is_some() || matches.get_flag("check") {
+        return Err(LineFault::Tell);
+    }
+    match matches.get_strs("images").unwrap_or(&[]) {
+        [word] => Ok(Some(Telling { path, word: *word })),
+        _ => Err(LineFault::Tell),
+    }
+}
+
+/// Reads the file of the record, which goes with the connections to an address, and the most bytes that it gets.
+fn record_in<'t, 'a: 't>(matches: &ArgMatches<'a>) -> Result<Option<(&'t str, u64)>, LineFault> {
+    let listens = matches.get_str("listen").is_some();
+    let Some(most) = bytes(
+        matches.get_str("record-bytes"),
+        RECORD_BYTES,
+        MOST_RECORD_BYTES,
+    ) else {
+        return Err(LineFault::Record);
+    };
+    match matches.get_str("record") {
+        Some(path) if listens => Ok(Some((path, most))),
+        None if matches.get_str("record-bytes").is_none() => Ok(None),
+        _ => Err(LineFault::Record),
+    }
+}
+
+/// Reads how the program is run: exactly one way, with the options that go with it.
 fn mode_in<'t, 'a: 't>(matches: &ArgMatches<'a>) -> Result<Mode<'t>, LineFault> {
     let hex = matches.get_flag("hex");
     let cache_given = matches.get_str("cache-bytes").is_some();
@@ -716,7 +842,9 @@ fn mode_in<'t, 'a: 't>(matches: &ArgMatches<'a>) -> Result<Mode<'t>, LineFault> 
     let peers = matches.get_str("peer-listen");
     let stats = matches.get_str("stats-listen");
     let peer_only = matches.get_flag("peer-only");
-    let listens = log || peers.is_some() || stats.is_some() || peer_only;
+    let control = matches.get_str("control");
+    let record = record_in(matches)?;
+    let listens = log || peers.is_some() || stats.is_some() || peer_only || control.is_some();
     let check = matches.get_flag("check");
     match (matches.get_str("one"), matches.get_str("listen")) {
         (Some(target), None) if !check && !listens => Ok(Mode::One {
@@ -731,6 +859,8 @@ fn mode_in<'t, 'a: 't>(matches: &ArgMatches<'a>) -> Result<Mode<'t>, LineFault> 
                 log,
                 stats,
                 peer_only,
+                control,
+                record,
             })
         }
         (None, None) if check && !hex && !listens => Ok(Mode::Check),

@@ -1,4 +1,4 @@
-//! What may be wrong with a list of images.
+//! Faults of lists of images.
 
 use thiserror::Error;
 

@@ -18,7 +18,7 @@ fn is_hidden(file: &str) -> bool
     !bytes.is_empty() && bytes[0] == b'.'
 }
 
-/// What stands in front of an ending, where a file's name has it.
+/// Returns the part of a file's name in front of an ending, where the name has it.
 fn without<'a>(file: &'a str, ending: &str) -> Option<&'a str>
     ensures some { IfSome result (λ name. file.now ≡ name.now ++ ending.now) }
     ensures none { IfNone result ((front : List ℕ) → file.now ≢ front ++ ending.now) }

@@ -8,27 +8,29 @@ use Rattle.iiif_tile_group.specs.Collection.{Item}
 use Rattle.iiif_start.specs.Opened.{AreOpened}
 use Rattle.iiif_start.specs.Parts.{Parts}
 use Rattle.iiif_start.specs.Stored.{IsItemOf, IsSourceOf}
+use Rattle.iiif_start.specs.declared.holding.Holding.{Holding}
 use Rattle.iiif_start.specs.declared.stored.Stored.{Stored}
 use Rattle.iiif_start.proofs.Names.{both_more, zip_push}
 
-pub opened_left : {R : Type 0} {d : _} (holds : List ℕ → List ℕ) (keeps : List ℕ → Type 0) (hold : ℕ) (skip : Bool)
+pub opened_left : {R : Type 0} {d : _} (holds : List ℕ → List ℕ) (keeps : List ℕ → Type 0) (holding : Holding) (skip : Bool)
     (front : List (Bor (List ℕ) × Bor (List ℕ))) (catalogue : List (Item (Stored R d))) (served others : List (Bor (List ℕ) × Bor (List ℕ)))
     (x : Bor (List ℕ) × Bor (List ℕ)) (i : Item (Stored R d))
-    → AreOpened holds keeps hold skip front catalogue served others → i.name ≡ x.0.now → IsSourceOf holds keeps hold x.1.now i.source
-    → AreOpened holds keeps hold skip (front ++ x ∷ []) (catalogue ++ i ∷ []) (served ++ x ∷ []) others
-opened_left holds keeps hold skip front catalogue served others x i so name source = record {
+    → AreOpened holds keeps holding skip front catalogue served others → i.name ≡ x.0.now → IsSourceOf holds keeps holding x.1.now i.source
+    → AreOpened holds keeps holding skip (front ++ x ∷ []) (catalogue ++ i ∷ []) (served ++ x ∷ []) others
+opened_left holds keeps holding skip front catalogue served others x i so name source = record {
   names = both_more (λ i. i.name) (λ i. i.0.now) catalogue served i x so.names name;
-  items = zip_push (IsItemOf holds keeps hold) served catalogue x i so.items (record { name = name; source = source });
+  items = zip_push (IsItemOf holds keeps holding) served catalogue x i so.items (record { name = name; source = source });
   each = Parts.left front served others x so.each;
   all = λ e. ap (λ s. s ++ x ∷ []) (so.all e);
 }
 
 pub opened_right : {R : Type 0} {d : _} {U : Type 0} (f : U → Bor (List ℕ) × Bor (List ℕ)) (holds : List ℕ → List ℕ)
-    (keeps : List ℕ → Type 0) (hold : ℕ) (skip : Bool) (front : List (Bor (List ℕ) × Bor (List ℕ))) (catalogue : List (Item (Stored R d)))
+    (keeps : List ℕ → Type 0) (holding : Holding) (skip : Bool) (front : List (Bor (List ℕ) × Bor (List ℕ)))
+    (catalogue : List (Item (Stored R d)))
     (served : List (Bor (List ℕ) × Bor (List ℕ))) (others : List U) (u : U)
-    → AreOpened holds keeps hold skip front catalogue served (map f others) → skip ≡ true
-    → AreOpened holds keeps hold skip (front ++ f u ∷ []) catalogue served (map f (others ++ u ∷ []))
-opened_right f holds keeps hold skip front catalogue served others u so asked = record {
+    → AreOpened holds keeps holding skip front catalogue served (map f others) → skip ≡ true
+    → AreOpened holds keeps holding skip (front ++ f u ∷ []) catalogue served (map f (others ++ u ∷ []))
+opened_right f holds keeps holding skip front catalogue served others u so asked = record {
   names = so.names;
   items = so.items;
   each = subst (Parts (front ++ f u ∷ []) served) (sym (map-append f others (u ∷ [])))
@@ -37,13 +39,13 @@ opened_right f holds keeps hold skip front catalogue served others u so asked = 
 }
 
 -- the first images, and one more
-pub opened_next : {R : Type 0} {d : _} (holds : List ℕ → List ℕ) (keeps : List ℕ → Type 0) (hold : ℕ) (skip : Bool)
+pub opened_next : {R : Type 0} {d : _} (holds : List ℕ → List ℕ) (keeps : List ℕ → Type 0) (holding : Holding) (skip : Bool)
     (images : List (Bor (List ℕ) × Bor (List ℕ))) (n : ℕ) (x : Bor (List ℕ) × Bor (List ℕ)) (catalogue : List (Item (Stored R d)))
     (served others : List (Bor (List ℕ) × Bor (List ℕ)))
-    → AreOpened holds keeps hold skip (take n images ++ x ∷ []) catalogue served others → n < length images → x ≡ get_or images n x
-    → AreOpened holds keeps hold skip (take (n + 1) images) catalogue served others
-opened_next holds keeps hold skip images n x catalogue served others so lt is =
-    subst (λ front. AreOpened holds keeps hold skip front catalogue served others)
+    → AreOpened holds keeps holding skip (take n images ++ x ∷ []) catalogue served others → n < length images → x ≡ get_or images n x
+    → AreOpened holds keeps holding skip (take (n + 1) images) catalogue served others
+opened_next holds keeps holding skip images n x catalogue served others so lt is =
+    subst (λ front. AreOpened holds keeps holding skip front catalogue served others)
     (sym (take_more images n x lt ∙ ap (λ y. take n images ++ y ∷ []) (sym is))) so
 
 -- a list with one more isn't empty

@@ -1,3 +1,4 @@
+pub mod Comparisons
 pub mod DotSegments
 pub mod Folders
 pub mod Held

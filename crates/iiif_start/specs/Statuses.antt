@@ -7,9 +7,9 @@ use Rattle.iiif_start.specs.declared.check.Checked.{Checked}
 use Rattle.iiif_command_line.specs.declared.line.LineFault.{LineFault}
 use Rattle.iiif_command_line.specs.declared.line.LineFault.TheVariants.{NoMemory}
 use Rattle.iiif_start.specs.declared.stop.Stop.{Stop}
-use Rattle.iiif_start.specs.declared.stop.Stop.TheVariants.{Image, Faulty, Memory, Write, Source, Listen}
+use Rattle.iiif_start.specs.declared.stop.Stop.TheVariants.{Image, Faulty, Memory, Write, Source, Listen, Cut, Record, Tell}
 use Rattle.iiif_start.specs.declared.unfit.Unfit.{Unfit}
-use Rattle.iiif_start.specs.declared.unfit.Unfit.TheVariants.{Closed, NotPlain, Refused}
+use Rattle.iiif_start.specs.declared.unfit.Unfit.TheVariants.{Closed, NotPlain, Refused, Unlisted, Differs}
 
 -- 2 where an image is at fault, and 1 where the program failed while running
 abbrev pub status_of : Stop → ℕ
@@ -19,17 +19,22 @@ status_of Memory = 1
 status_of Write = 1
 status_of Source = 1
 status_of (Listen reason) = 1
+status_of Cut = 1
+status_of Record = 1
+status_of Tell = 1
 
 -- of words that are at fault: 1 where memory runs out, else 2
 abbrev pub status_of_words : LineFault → ℕ
 status_of_words NoMemory = 1
 status_of_words fault = 2
 
--- the number of an image's fault: 0 where its file can't be opened or is none, else the reader's
+-- the number of an image's fault: 0 where its file can't be opened, is none or isn't the listed one, else the reader's
 abbrev pub unfit_number : Unfit → ℕ
 unfit_number (Closed reason) = 0
 unfit_number NotPlain = 0
 unfit_number (Refused fault) = open_number fault
+unfit_number Unlisted = 0
+unfit_number Differs = 0
 
 -- whether one of the images that were looked at can't be served
 abbrev pub has_unfit : List Checked → Bool

@@ -1,10 +1,14 @@
 -- The bytes of a source, and the faults that it may give.
-use Rattle.std.specs.Prelude.{◌≡◌, ℕ, ◌<◌, ◌≤◌, Bool, true, false, ◌||◌, ◌==◌, List, length, bytes_eq, codes}
+use Rattle.std.specs.Prelude.{◌≡◌, ℕ, ◌<◌, ◌≤◌, Bool, true, false, ◌||◌, ◌==◌, List, length, bytes_eq, codes, IfSome, Option, None, Some, is_some}
 use denote.Ref.{Bor}
+use Rattle.sha2.specs.Sha256.{sha256}
+use Rattle.iiif_fixity.specs.Bags.{digest_of}
+use Rattle.iiif_fixity.specs.declared.bag.Bag.{Bag}
 use Rattle.iiif_tile_group.specs.Collection.{Item}
 use Rattle.iiif_source.specs.Cause.{failed, ended}
 use Rattle.iiif_source.specs.Files.{fitted}
 use Rattle.iiif_source.specs.declared.ReadFault.{ReadFault}
+use Rattle.iiif_start.specs.declared.holding.Holding.{Holding}
 use Rattle.iiif_start.specs.declared.stored.Stored.{Stored}
 use Rattle.iiif_start.specs.declared.stored.Stored.TheVariants.{Memory, File}
 
@@ -32,16 +36,28 @@ stored_gave (File source) f = f.cause == failed || f.cause == ended
 abbrev pub is_sample : List ℕ → Bool
 is_sample path = bytes_eq path (codes ":sample")
 
--- The source of a path, of which bytes up to so many are to be held, if any. The files of paths hold these bytes, where they keep them.
-pub record IsSourceOf {R : Type 0} {d : _} (holds : List ℕ → List ℕ) (keeps : List ℕ → Type 0) (hold : ℕ) (path : List ℕ)
+-- These bytes have the digest that a bag lists of a path, where there is a bag.
+abbrev pub AreListed : Option Bag → List ℕ → List ℕ → Type 0
+AreListed bag path bytes = IfSome bag (λ b. digest_of b path ≡ Some (sha256 bytes))
+
+-- whether a bag, where there is one, lists a digest of a path
+abbrev pub is_named : Option Bag → List ℕ → Bool
+is_named None path = true
+is_named (Some bag) path = is_some (digest_of bag path)
+
+-- The source of a path, where files are to be held so, if any. The files of paths hold these bytes, where they keep them. Bytes that are
+-- held have the digest that is listed, whatever the files hold; of others a digest is listed.
+pub record IsSourceOf {R : Type 0} {d : _} (holds : List ℕ → List ℕ) (keeps : List ℕ → Type 0) (holding : Holding) (path : List ℕ)
     (source : Stored R d) : Type 0 where
   pub same : is_sample path ≡ false → keeps path → bytes_of holds source ≡ holds path
   pub kept : is_sample path ≡ false → keeps path → keeps_of keeps source
-  pub held : 0 < hold → length (bytes_of holds source) ≤ hold → is_held source ≡ true
-  pub small : is_sample path ≡ false → is_held source ≡ true → (0 < hold) × (length (bytes_of holds source) ≤ hold)
+  pub held : 0 < holding.bytes → length (bytes_of holds source) ≤ holding.bytes → is_held source ≡ true
+  pub small : is_sample path ≡ false → is_held source ≡ true → (0 < holding.bytes) × (length (bytes_of holds source) ≤ holding.bytes)
+  pub listed : is_sample path ≡ false → is_held source ≡ true → AreListed holding.bag path (bytes_of holds source)
+  pub named : is_sample path ≡ false → is_named holding.bag path ≡ true
 
 -- the item of an image's name and path
-pub record IsItemOf {R : Type 0} {d : _} (holds : List ℕ → List ℕ) (keeps : List ℕ → Type 0) (hold : ℕ)
+pub record IsItemOf {R : Type 0} {d : _} (holds : List ℕ → List ℕ) (keeps : List ℕ → Type 0) (holding : Holding)
     (image : Bor (List ℕ) × Bor (List ℕ)) (item : Item (Stored R d)) : Type 0 where
   pub name : item.name ≡ image.0.now
-  pub source : IsSourceOf holds keeps hold image.1.now item.source
+  pub source : IsSourceOf holds keeps holding image.1.now item.source

@@ -29,7 +29,7 @@ pub struct Images {
 }
 
 impl Held {
-    /// Those of these names and files in a catalogue.
+    /// Counts those of these names and files in a catalogue.
     #[tactic(auto, using(crate::proofs::SourceLemmas::added))]
     pub fn among<R: Opens + Wait>(
         catalogue: &Catalogue<R, Stored<R>>,
@@ -51,7 +51,7 @@ impl Held {
     }
 }
 
-/// The part of an image that is held, where there is one.
+/// Returns the part of an image that is held, where there is one.
 fn held_of<R: Opens + Wait>(entry: Option<&ImageEntry<R, Stored<R>>>) -> Held
     ensures images { result.images ≡ count_in (option_map (λ e. item_of e.now) entry.entry) }
     ensures bytes { result.bytes ≡ bytes_in (option_map (λ e. item_of e.now) entry.entry) }

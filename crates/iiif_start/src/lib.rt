@@ -5,7 +5,8 @@
 pub use check::{Checked, Found};
 pub use dot_segments::warn;
 pub use held::{Held, Images};
-pub use opening::{OpenedImages, Opening, open_images, read_folder, read_list};
+pub use holding::Holding;
+pub use opening::{OpenedImages, Opening, open_images, read_folder, read_list, read_manifest};
 pub use reason::Reason;
 pub use rooms::warn_of_room;
 pub use stop::{Stop, report_end};
@@ -18,7 +19,7 @@ pub use wrong::{Origins, report_fault};
 pub mod check;
 pub mod dot_segments;
 pub mod held;
-mod holding;
+pub mod holding;
 mod name;
 pub mod opening;
 pub mod reason;

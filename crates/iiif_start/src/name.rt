@@ -12,14 +12,14 @@ use std::fmt::{Display, Formatter};
 #[derive(Clone, Copy, Debug)]
 pub struct Word<'a>(pub &'a str);
 
-/// Whether a byte stands for itself.
+/// Returns whether a byte stands for itself.
 fn is_plain(byte: u8) -> bool
     ensures { result ≡ plain byte }
 {
     byte.is_ascii_graphic() && byte != b'"' && byte != b'\'' && byte != b'\\'
 }
 
-/// A hexadecimal digit.
+/// Returns a hexadecimal digit.
 fn hex_digit(value: u8) -> char
     requires { value < 16 }
     ensures { result ≡ digit_of value }

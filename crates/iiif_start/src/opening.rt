@@ -10,9 +10,9 @@ ghost use Rattle.iiif_tiff_read.specs.Layouts.{FitsIn};
 ghost use Rattle.iiif_start.specs.Folders.{IsImageIn};
 ghost use Rattle.iiif_start.specs.Opened.{AreOpened};
 ghost use Rattle.iiif_start.specs.Parts.{Parts};
-ghost use Rattle.iiif_start.specs.Stored.{bytes_of, is_held, keeps_of, IsItemOf, IsSourceOf};
+ghost use Rattle.iiif_start.specs.Stored.{bytes_of, is_held, keeps_of, AreListed, IsItemOf, IsSourceOf};
 
-use crate::holding::{HoldFault, read_whole};
+use crate::holding::{Holding, read_whole};
 use crate::reason::Reason;
 use crate::sample::sample;
 use crate::stop::Stop;
@@ -20,6 +20,7 @@ use crate::stored::Stored;
 use crate::unfit::Unfit;
 use clap::ArgMatches;
 use iiif_command_line::LineFault;
+use iiif_fixity::{HoldFault, hold};
 use iiif_image_list::{FolderImage, name_of};
 use iiif_open_files::{OpenFiles, Opens, PathSource, Texts};
 use iiif_source::{MemSource, OpenFile, Opened, ReadFault, Source};
@@ -30,7 +31,7 @@ use std::io::{Error, ErrorKind};
 use std::num::NonZeroUsize;
 use std::sync::{Arc, Wait};
 
-/// The text of the list of images, empty where none is named.
+/// Reads the text of the list of images, empty where none is named.
 pub fn read_list<R>(rt: &R, alloc: Global, matches: &ArgMatches<'_>) -> Result<Vec<u8>, LineFault>
 where
     R: Texts,
@@ -45,14 +46,33 @@ where
     }
 }
 
-/// The text between a folder's path and a file's name.
+/// Reads the text of the manifest, if one is named.
+pub fn read_manifest<R>(
+    rt: &R,
+    alloc: Global,
+    matches: &ArgMatches<'_>,
+) -> Result<Option<Vec<u8>>, LineFault>
+where
+    R: Texts,
+{
+    let Some(file) = matches.get_str("manifest") else {
+        return Ok(None);
+    };
+    match rt.text(alloc, file) {
+        Ok(text) => Ok(Some(text)),
+        Err(error) if error.kind() == ErrorKind::OutOfMemory => Err(LineFault::NoMemory),
+        Err(_) => Err(LineFault::UnreadManifest),
+    }
+}
+
+/// Returns the text between a folder's path and a file's name.
 fn separator_behind(folder: &str) -> &'static str
     ensures { (result.now ≡ []) ⊎ (result.now ≡ codes "/") }
 {
     if folder.ends_with('/') { "" } else { "/" }
 }
 
-/// A file of a folder as an image. None where its name is none of an image's.
+/// Makes an image of a folder's file. None where its name is none of an image's.
 fn folder_image(alloc: Global, folder: &str, file: &str) -> Result<Option<FolderImage>, AllocError>
     ensures { IfOk result (λ found. IfSome found (λ image. IsImageIn folder.now file.now image)) }
 {
@@ -66,7 +86,7 @@ fn folder_image(alloc: Global, folder: &str, file: &str) -> Result<Option<Folder
     }))
 }
 
-/// The images of a folder's files, in the order of the files' names.
+/// Makes the images of a folder's files, in the order of the files' names.
 fn folder_images(
     alloc: Global,
     folder: &str,
@@ -82,7 +102,7 @@ fn folder_images(
     Ok(images)
 }
 
-/// The images of the folder, none where no folder is named. It is read now, and never again.
+/// Reads the images of the folder, none where no folder is named.
 pub fn read_folder<R>(
     rt: &R,
     alloc: Global,
@@ -104,7 +124,7 @@ where
     }
 }
 
-/// Why a folder names no images whose files' names can't be read.
+/// Returns why a folder names no images whose files' names can't be read.
 fn unread_folder(error: &Error) -> LineFault {
     match error.kind() {
         ErrorKind::OutOfMemory => LineFault::NoMemory,
@@ -113,8 +133,8 @@ fn unread_folder(error: &Error) -> LineFault {
     }
 }
 
-/// Where the images' files stay open, so many of them.
-pub(crate) fn shelf<'a, R: Opens>(
+/// Makes the cache in which so many of the images' files stay open.
+pub(crate) fn share_files<'a, R: Opens>(
     alloc: Global,
     most: NonZeroUsize,
 ) -> Result<Arc<OpenFiles<R>>, Stop<'a>> {
@@ -127,7 +147,7 @@ pub(crate) fn shelf<'a, R: Opens>(
     }
 }
 
-/// The built-in source.
+/// Makes the built-in source.
 fn sample_source<'a, R: Opens>(alloc: Global) -> Result<Stored<R>, Stop<'a>>
     ensures { IfOk result (λ s. is_held s ≡ true) }
 {
@@ -137,27 +157,27 @@ fn sample_source<'a, R: Opens>(alloc: Global) -> Result<Stored<R>, Stop<'a>>
     }
 }
 
-/// Why the image of a name isn't served whose file can't be opened.
+/// Returns why the image of a name isn't served whose file can't be opened.
 fn closed<'a>(name: &'a str, error: &Error) -> Stop<'a> {
     match error.kind() {
         ErrorKind::OutOfMemory => Stop::Memory,
         ErrorKind::InvalidInput => Stop::Image(name, Unfit::NotPlain),
-        _ => Stop::Image(name, Unfit::Closed(Reason::of(error))),
+        _ => Stop::Image(name, Unfit::Closed(Reason::new(error))),
     }
 }
 
-/// Why the image of a name isn't served whose file can't be read.
+/// Returns why the image of a name isn't served whose file can't be read.
 fn unread<'a>(name: &'a str, fault: ReadFault) -> Stop<'a> {
     Stop::Image(name, Unfit::Refused(OpenFault::Source(fault)))
 }
 
-/// Why the image of a name isn't served whose file has become shorter while it was opened.
+/// Returns why the image of a name isn't served whose file has become shorter while it was opened.
 fn shortened<'a>(name: &'a str) -> Stop<'a> {
     let cause = ReadFault::ENDED;
     unread(name, ReadFault { place: 0, cause })
 }
 
-/// A path that is shared.
+/// Makes a path that is shared.
 pub(crate) fn share_path(alloc: Global, path: &str) -> Result<Arc<String>, AllocError>
     ensures { IfOk result (λ p. string_bytes (arc_value p) ≡ path.now) }
 {
@@ -168,7 +188,7 @@ pub(crate) fn share_path(alloc: Global, path: &str) -> Result<Arc<String>, Alloc
     }
 }
 
-/// The file of an image of this name, opened, and how many bytes it has.
+/// Opens the file of an image of this name, and returns it with its length in bytes.
 fn open_measured<'a, R: Opens>(
     rt: &R,
     alloc: Global,
@@ -191,31 +211,68 @@ fn open_measured<'a, R: Opens>(
     }
 }
 
-/// A file of at most so many bytes as a source in memory. It is read once, and then closed. None of a longer one.
+/// Returns why the image of a name isn't served whose file is to be held and can't be.
+pub(crate) fn unheld<'a>(name: &'a str, fault: HoldFault) -> Stop<'a> {
+    match fault {
+        HoldFault::Read(fault) => unread(name, fault),
+        HoldFault::Differs => Stop::Image(name, Unfit::Differs),
+        HoldFault::NoMemory => Stop::Memory,
+    }
+}
+
+/// Reads all bytes of an image's file as a source in memory. Where there is a bag, they have the digest that is listed of the file's path.
+fn hold_whole<'a, R, S: Source<R>>(
+    rt: &R,
+    alloc: Global,
+    name: &'a str,
+    path: &str,
+    source: &S,
+    holding: Holding<'_>,
+) -> Result<MemSource, Stop<'a>>
+    ensures bytes { S.keeps source.now → IfOk result (λ s. s ≡ S.bytes source.now) }
+    ensures length { IfOk result (λ s. length s ≡ length (S.bytes source.now)) }
+    ensures listed { IfOk result (λ s. AreListed holding.entry.bag path.now s) }
+{
+    let Some(bag) = holding.bag else {
+        return match read_whole(rt, alloc, source) {
+            Ok(held) => Ok(held),
+            Err(fault) => Err(unheld(name, fault)),
+        };
+    };
+    let Some(digest) = bag.digest_of(path) else {
+        return Err(Stop::Image(name, Unfit::Unlisted));
+    };
+    match hold(rt, alloc, source, digest) {
+        Ok(held) => Ok(held),
+        Err(fault) => Err(unheld(name, fault)),
+    }
+}
+
+/// Reads a file of at most so many bytes once, as a source in memory, and closes it. None of a longer one.
 #[tactic(auto, using(crate::proofs::SourceLemmas::whole, crate::proofs::SourceLemmas::fitted_length))]
 fn hold_small<'a, R: Opens>(
     rt: &R,
     alloc: Global,
     name: &'a str,
     path: &str,
-    hold: u64,
+    holding: Holding<'_>,
 ) -> Result<Option<MemSource>, Stop<'a>>
     ensures bytes { R.keeps path.now → IfOk result (λ found. IfSome found (λ s. s ≡ R.holds path.now)) }
-    ensures small { IfOk result (λ found. IfSome found (λ s. length s ≤ hold)) }
+    ensures small { IfOk result (λ found. IfSome found (λ s. length s ≤ holding.entry.bytes)) }
+    ensures listed { IfOk result (λ found. IfSome found (λ s. AreListed holding.entry.bag path.now s)) }
 {
     let (file, len) = open_measured(rt, alloc, name, path)?;
-    if len > hold {
+    if len > holding.bytes {
         return Ok(None);
     }
     let source = Opened { file: &file, len };
-    match read_whole(rt, alloc, &source) {
+    match hold_whole(rt, alloc, name, path, &source, holding) {
         Ok(source) => Ok(Some(source)),
-        Err(HoldFault::NoMemory) => Err(Stop::Memory),
-        Err(HoldFault::Read(fault)) => Err(unread(name, fault)),
+        Err(stop) => Err(stop),
     }
 }
 
-/// A file as a source that is opened when it is read.
+/// Makes a source of a file that is opened when it is read.
 fn open_large<'a, R>(
     rt: &R,
     alloc: Global,
@@ -240,7 +297,8 @@ where
     }
 }
 
-/// A file as the source of an image of this name. With a hold above 0 one of at most so many bytes is held in memory.
+/// Opens a file as the source of an image of this name. Where there is a bag, it lists the file. With a hold above 0 one of at most so many
+/// bytes is held in memory.
 #[tactic(auto, using(crate::proofs::SourceLemmas::whole))]
 fn open_file<'a, R>(
     rt: &R,
@@ -248,61 +306,64 @@ fn open_file<'a, R>(
     files: &Arc<OpenFiles<R>>,
     name: &'a str,
     path: &str,
-    hold: u64,
+    holding: Holding<'_>,
 ) -> Result<Stored<R>, Stop<'a>>
 where
     R: Opens + Wait,
-    ensures { IfOk result (λ s. IsSourceOf R.holds R.keeps hold path.now s) }
+    ensures { IfOk result (λ s. IsSourceOf R.holds R.keeps holding.entry path.now s) }
 {
-    if hold > 0 {
-        if let Some(source) = hold_small(rt, alloc, name, path, hold)? {
+    if !holding.names(path) {
+        return Err(Stop::Image(name, Unfit::Unlisted));
+    }
+    if holding.bytes > 0 {
+        if let Some(source) = hold_small(rt, alloc, name, path, holding)? {
             return Ok(Stored::Memory(source));
         }
     }
     let source = open_large(rt, alloc, files, name, path)?;
-    if hold > 0 && source.len() <= hold {
+    if holding.bytes > 0 && source.len() <= holding.bytes {
         return Err(shortened(name));
     }
     Ok(Stored::File(source))
 }
 
-/// The source of a file's name.
+/// Opens the source of a file's name.
 fn open_source<'a, R>(
     rt: &R,
     alloc: Global,
     files: &Arc<OpenFiles<R>>,
     name: &'a str,
     path: &str,
-    hold: u64,
+    holding: Holding<'_>,
 ) -> Result<Stored<R>, Stop<'a>>
 where
     R: Opens + Wait,
-    ensures { IfOk result (λ s. IsSourceOf R.holds R.keeps hold path.now s) }
+    ensures { IfOk result (λ s. IsSourceOf R.holds R.keeps holding.entry path.now s) }
 {
     if path == ":sample" {
         sample_source(alloc)
     } else {
-        open_file(rt, alloc, files, name, path, hold)
+        open_file(rt, alloc, files, name, path, holding)
     }
 }
 
-/// An image's source, and what its file says of it.
+/// Opens an image's source, and reads what its file says of it.
 pub(crate) fn open_image<'a, R>(
     rt: &R,
     alloc: Global,
     files: &Arc<OpenFiles<R>>,
     name: &'a str,
     path: &str,
-    hold: u64,
+    holding: Holding<'_>,
 ) -> Result<(Stored<R>, Layout), Stop<'a>>
 where
     R: Opens + Wait,
-    ensures source { IfOk result (λ o. IsSourceOf R.holds R.keeps hold path.now o.0) }
+    ensures source { IfOk result (λ o. IsSourceOf R.holds R.keeps holding.entry path.now o.0) }
     ensures in_file { IfOk result (λ o. FitsIn o.1 (length (bytes_of R.holds o.0))) }
     ensures accepted { IfOk result (λ o. keeps_of R.keeps o.0 → refusal_of (bytes_of R.holds o.0) ≡ None) }
     ensures shown { IfOk result (λ o. keeps_of R.keeps o.0 → o.1 ≡ scheme (bytes_of R.holds o.0)) }
 {
-    let source = open_source(rt, alloc, files, name, path, hold)?;
+    let source = open_source(rt, alloc, files, name, path, holding)?;
     match open(rt, alloc, &source) {
         Ok(layout) => Ok((source, layout)),
         Err(fault) => Err(Stop::Image(name, Unfit::Refused(fault))),
@@ -320,7 +381,7 @@ pub struct OpenedImages<'a, R: Opens + Wait> {
 }
 
 impl<'a, R: Opens + Wait> OpenedImages<'a, R> {
-    /// No image yet.
+    /// Makes no image yet.
     fn new(alloc: Global) -> OpenedImages<'a, R>
         ensures catalogue { result.catalogue ≡ [] }
         ensures served { result.served.items ≡ [] }
@@ -334,12 +395,11 @@ impl<'a, R: Opens + Wait> OpenedImages<'a, R> {
     }
 }
 
-/// How images are opened: how many of their files stay open, up to how many bytes one is held in memory, and whether those that can't be
-/// served are left out.
+/// How images are opened: how many of their files stay open, which are held in memory, and whether those that can't be served are left out.
 #[derive(Clone, Copy)]
-pub struct Opening {
+pub struct Opening<'m> {
     pub open_files: NonZeroUsize,
-    pub hold: u64,
+    pub holding: Holding<'m>,
     pub skip_unfit: bool,
 }
 
@@ -374,18 +434,18 @@ fn open_next<'a, R>(
     alloc: Global,
     files: &Arc<OpenFiles<R>>,
     image: (&'a str, &'a str),
-    opening: Opening,
+    opening: Opening<'_>,
     opened: &mut OpenedImages<'a, R>,
 ) -> Result<(), Stop<'a>>
 where
     R: Opens + Wait,
-    ensures { (front : List (Bor (List ℕ) × Bor (List ℕ))) → AreOpened R.holds R.keeps opening.hold opening.skip_unfit front
+    ensures { (front : List (Bor (List ℕ) × Bor (List ℕ))) → AreOpened R.holds R.keeps opening.entry.holding opening.entry.skip_unfit front
         opened.old.catalogue opened.old.served.items (map (λ u. u.0) opened.old.unfit.items)
-        → OnOk result (AreOpened R.holds R.keeps opening.hold opening.skip_unfit (front ++ image.entry ∷ [])
+        → OnOk result (AreOpened R.holds R.keeps opening.entry.holding opening.entry.skip_unfit (front ++ image.entry ∷ [])
         opened.new.catalogue opened.new.served.items (map (λ u. u.0) opened.new.unfit.items)) }
 {
     let (name, path) = image;
-    match open_image(rt, alloc, files, name, path, opening.hold) {
+    match open_image(rt, alloc, files, name, path, opening.holding) {
         Ok((source, layout)) => {
             add_image(alloc, &mut opened.catalogue, name, source, layout)?;
             match opened.served.push(image) {
@@ -403,7 +463,7 @@ where
     }
 }
 
-/// Why none of some images can be served, where none can be and one is known of which that is so.
+/// Returns why none of some images can be served, where none can be and one is known of which that is so.
 fn none_served<'a, R>(opened: &OpenedImages<'a, R>) -> Option<Stop<'a>>
 where
     R: Opens + Wait,
@@ -418,25 +478,25 @@ where
     }
 }
 
-/// The images, opened in the order given. Where `hold` is above 0, each file of at most so many bytes is read once, held in memory, and
-/// closed; of the others so many stay open. Where one can't be served, none is, or it is left out, as is asked for; where none can be, the
-/// first of them is told.
+/// Opens the images in the order given. A file that is to be held is read once, compared with its digest where a bag lists digests, held
+/// in memory, and closed; of the others so many stay open. Where one can't be served, none is, or it is left out, as is asked for; where
+/// none can be, the first of them is told.
 #[tactic(auto, using(crate::proofs::OpenedLemmas::opened_next, crate::proofs::OpenedLemmas::opened_some))]
 pub fn open_images<'a, R>(
     rt: &R,
     alloc: Global,
     images: &[(&'a str, &'a str)],
-    opening: Opening,
+    opening: Opening<'_>,
 ) -> Result<OpenedImages<'a, R>, Stop<'a>>
 where
     R: Opens + Wait,
     ensures names { IfOk result (λ o. map (λ i. i.name) o.catalogue ≡ map (λ i. i.0.now) o.served.items) }
-    ensures items { IfOk result (λ o. AllZip (IsItemOf R.holds R.keeps opening.hold) o.served.items o.catalogue) }
+    ensures items { IfOk result (λ o. AllZip (IsItemOf R.holds R.keeps opening.entry.holding) o.served.items o.catalogue) }
     ensures each { IfOk result (λ o. Parts images.now o.served.items (map (λ u. u.0) o.unfit.items)) }
-    ensures all { opening.skip_unfit ≡ false → IfOk result (λ o. o.served.items ≡ images.now) }
+    ensures all { opening.entry.skip_unfit ≡ false → IfOk result (λ o. o.served.items ≡ images.now) }
     ensures some { 0 < length images.now → IfOk result (λ o. 0 < length o.served.items) }
 {
-    let files = shelf(alloc, opening.open_files)?;
+    let files = share_files(alloc, opening.open_files)?;
     let mut opened = OpenedImages::new(alloc);
     for image in images {
         open_next(rt, alloc, &files, *image, opening, &mut opened)?;

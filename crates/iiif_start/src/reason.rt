@@ -30,8 +30,8 @@ pub enum Reason {
 }
 
 impl Reason {
-    /// The reason that the system gave.
-    pub fn of(error: &Error) -> Reason {
+    /// Finds the reason that the system gave.
+    pub fn new(error: &Error) -> Reason {
         match error.kind() {
             ErrorKind::NotFound => Reason::Missing,
             ErrorKind::PermissionDenied => Reason::Denied,
@@ -42,7 +42,7 @@ impl Reason {
     }
 }
 
-/// The reason of a code that has no kind.
+/// Returns the reason of a code that has no kind.
 fn of_code(code: Option<i32>) -> Reason {
     match code {
         Some(EIO) => Reason::Device,

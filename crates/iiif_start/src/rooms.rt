@@ -12,7 +12,7 @@ use std::num::NonZeroUsize;
 /// The bytes of each group's cache where none are given.
 const DEFAULT: u64 = 67_108_864;
 
-/// The bytes of a whole gray tile of 8 bits.
+/// Counts the bytes of a whole gray tile of 8 bits.
 fn tile_of(edge: u32) -> u64
     ensures { result ≡ tile_of edge }
 {

@@ -18,7 +18,7 @@ const SAMPLE: [u8; 138] = [
     0x00, 0x00, 0x00, 0x00, 0x00, 0x00, 0x00,
 ];
 
-/// The built-in source, in memory.
+/// Makes the built-in source, in memory.
 pub fn sample(alloc: Global) -> Result<MemSource, NoMemory> {
     Ok(MemSource::new(Vec::from_slice(alloc, &SAMPLE)?))
 }

@@ -8,6 +8,14 @@ use crate::reason::Reason;
 use crate::unfit::Unfit;
 use std::io::Write;
 
+/// The remedy where calls at work were cut off at the end.
+const CUT: &str =
+    "calls were at work when the time was over: --drain-seconds for drain, three seconds for stop";
+
+/// The remedy where no server is told.
+const UNTOLD: &str =
+    "no server replies at that socket: is it the --control of one that runs, and is this its user?";
+
 /// Why the program ends without an answer.
 #[derive(Clone, Copy, Debug, PartialEq, Eq)]
 pub enum Stop<'a> {
@@ -20,11 +28,17 @@ pub enum Stop<'a> {
     Source,
     /// It can't listen: what the system said.
     Listen(Reason),
+    /// It was told to end, and calls at work were cut off.
+    Cut,
+    /// The file of its record can't be made.
+    Record,
+    /// No server is told by the socket that was named, or none that replies.
+    Tell,
 }
 
 impl<'a> Stop<'a> {
-    /// Says it in a line, of an image and where it can't listen with a second one that says what to do, and gives the program's status: 2
-    /// where an image is at fault, else 1.
+    /// Says it in a line, of an image, where it can't listen and at its own end with a second one that says what to do, and gives the
+    /// program's status: 2 where an image is at fault, else 1.
     pub fn report<E: Write>(self, err: &mut E) -> u8
         ensures { result ≡ status_of self.entry }
     {
@@ -38,15 +52,24 @@ impl<'a> Stop<'a> {
             Stop::Memory => report_end(err, "run: memory", 1),
             Stop::Write => report_end(err, "run: write", 1),
             Stop::Source => report_end(err, "run: source", 1),
+            Stop::Record => report_end(err, "run: record", 1),
             Stop::Listen(reason) => {
                 let _ = report_end(err, "run: listen", 1);
                 report_end(err, remedy_of_listening(reason), 1)
+            }
+            Stop::Cut => {
+                let _ = report_end(err, "run: cut", 1);
+                report_end(err, CUT, 1)
+            }
+            Stop::Tell => {
+                let _ = report_end(err, "run: tell", 1);
+                report_end(err, UNTOLD, 1)
             }
         }
     }
 }
 
-/// The remedy where the system doesn't let the program listen.
+/// Returns the remedy where the system doesn't let the program listen.
 fn remedy_of_listening(reason: Reason) -> &'static str {
     match reason {
         Reason::Taken => {

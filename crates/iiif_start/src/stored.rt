@@ -15,7 +15,7 @@ pub enum Stored<R: Opens> {
 }
 
 impl<R: Opens> Stored<R> {
-    /// Whether its bytes are held in memory.
+    /// Returns whether its bytes are held in memory.
     pub fn is_held(&self) -> bool
         ensures { result ≡ is_held self.now }
     {

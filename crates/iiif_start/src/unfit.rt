@@ -24,20 +24,24 @@ pub enum Unfit {
     NotPlain,
     /// Its file isn't one that is read.
     Refused(OpenFault),
+    /// The manifest lists no digest of its file.
+    Unlisted,
+    /// Its file doesn't have the digest that the manifest lists.
+    Differs,
 }
 
 impl Unfit {
-    /// The number of the fault.
+    /// Returns the number of the fault.
     pub fn number(&self) -> u8
         ensures { result ≡ unfit_number self.now }
     {
         match self {
-            Unfit::Closed(_) | Unfit::NotPlain => 0,
+            Unfit::Closed(_) | Unfit::NotPlain | Unfit::Unlisted | Unfit::Differs => 0,
             Unfit::Refused(fault) => fault.number(),
         }
     }
 
-    /// The remedy: one line, without its end.
+    /// Returns the remedy: one line, without its end.
     pub fn remedy(&self) -> &'static str
         ensures one_line { list_all is_line_byte result.now ≡ true }
         ensures some { 0 < length result.now }
@@ -46,6 +50,10 @@ impl Unfit {
             Unfit::Closed(reason) => remedy_of_closed(*reason),
             Unfit::NotPlain => "it is no plain file: a folder, a pipe or a device is none",
             Unfit::Refused(fault) => advice(fault),
+            Unfit::Unlisted =>
+                "the manifest doesn't list it: look at the path, which the manifest has behind its own folder",
+            Unfit::Differs =>
+                "it differs from its digest in the manifest: put the file back, or look at which one the path leads to",
         }
     }
 
@@ -58,7 +66,7 @@ impl Unfit {
     }
 }
 
-/// The remedy for a file that the system doesn't open: one line, without its end.
+/// Returns the remedy for a file that the system doesn't open: one line, without its end.
 fn remedy_of_closed(reason: Reason) -> &'static str
     ensures one_line { list_all is_line_byte result.now ≡ true }
     ensures some { 0 < length result.now }

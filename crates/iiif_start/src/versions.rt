@@ -14,7 +14,7 @@ const SAMPLE: FileVersion = FileVersion {
     changed: 0,
 };
 
-/// The version of a path's file. None where it can't be looked at. The only error is lack of memory.
+/// Reads the version of a path's file. None where it can't be looked at. The only error is lack of memory.
 fn version_of<R: Opens>(
     rt: &R,
     alloc: Global,
@@ -30,15 +30,15 @@ fn version_of<R: Opens>(
     };
     match file.metadata(rt) {
         Ok(found) => {
-            let Known { len, changed, .. } = Known::of(&found);
+            let Known { len, changed, .. } = Known::new(&found);
             Ok(Some(FileVersion { len, changed }))
         }
         Err(_) => Ok(None),
     }
 }
 
-/// The versions of the images' files as they are now: of all that can be looked at or, behind an earlier look, of those that are as they
-/// were then. So a file that is written over while it is opened has none. The only error is lack of memory.
+/// Reads the versions of the images' files as they are now: of all that can be looked at or, behind an earlier look, of those that are as
+/// they were then. So a file that is written over while it is opened has none. The only error is lack of memory.
 pub fn read_versions<'a, R: Opens>(
     rt: &R,
     alloc: Global,
@@ -60,7 +60,7 @@ pub fn read_versions<'a, R: Opens>(
     Ok(versions)
 }
 
-/// Whether an image's file has the version that it had at an earlier look, where there was one.
+/// Returns whether an image's file has the version that it had at an earlier look, where there was one.
 fn is_as_before(before: Option<&FileVersions>, name: &str, version: FileVersion) -> bool {
     match before {
         Some(before) => before.digits_of(name) == Some(version.digits()),

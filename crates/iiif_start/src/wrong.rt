@@ -12,7 +12,7 @@ use iiif_image_list::FolderImage;
 use std::io;
 use std::io::Write;
 
-/// The remedy for words that are at fault: one line, without its end. Of a list of images its own line says more.
+/// Returns the remedy for words that are at fault: one line, without its end. Of a list of images its own line says more.
 fn remedy(fault: LineFault) -> &'static str
     ensures one_line { list_all is_line_byte result.now ≡ true }
     ensures some { 0 < length result.now }
@@ -33,6 +33,7 @@ fn remedy(fault: LineFault) -> &'static str
         LineFault::PeerTimeout => "--peer-timeout is a number of milliseconds, 10 to 60000",
         LineFault::MinRate => "--min-rate is a number of bytes a second, 0 to 1099511627776",
         LineFault::PerAddress => "--per-address is a number of connections, 0 to 64",
+        LineFault::DrainSeconds => "--drain-seconds is a number of seconds, 0 to 3600",
         LineFault::Image => {
             "at least one NAME=FILE, here or in the file of --images, or a file of --folder, with a name of 1 to 1024 bytes that stands \
              once"
@@ -47,12 +48,24 @@ fn remedy(fault: LineFault) -> &'static str
         LineFault::LongName => {
             "with --peer-versions an image's name has at most 992 bytes: the version of its file stands behind it"
         }
+        LineFault::UnreadManifest => "the file of --manifest can't be read",
+        LineFault::ManifestAlone =>
+            "--manifest goes with --hold, since only files that are held are compared with it, or with --check",
+        LineFault::Manifest(_) => {
+            "the file of --manifest is UTF-8, in lines of a SHA-256 digest and a path, as sha256sum writes them"
+        }
         LineFault::Peer => {
             "--peer is NAME=ADDR with a port at its end, at most 63 times; it and --name have names of 1 to 255 bytes that stand once"
         }
+        LineFault::Record => {
+            "--record FILE only with --listen; --record-bytes is a number of bytes, up to 1099511627776, and only with --record"
+        }
         LineFault::Mode => {
-            "one of --listen ADDR, --one TARGET and --check; --hex only with --one; --peer-listen, --log and --stats-listen only with \
-             --listen; --peer-only only with --peer-listen"
+            "one of --listen ADDR, --one TARGET and --check; --hex only with --one; --peer-listen, --log, --stats-listen and --control \
+             only with --listen; --peer-only only with --peer-listen"
+        }
+        LineFault::Tell => {
+            "--tell PATH has one of status, drain, reload and stop behind it, and neither --listen, --one, --check nor --control beside it"
         }
         LineFault::NoMemory => "memory was refused: give the process more",
     }
@@ -66,7 +79,7 @@ pub struct Origins<'a> {
     pub images: &'a [FolderImage],
 }
 
-/// The first of some images of a folder that has a name.
+/// Finds the first of some images of a folder that has a name.
 fn first_named<'a>(images: &'a [FolderImage], name: &str) -> Option<&'a FolderImage> {
     images.iter().find(|image| image.name.as_str() == name)
 }
@@ -101,6 +114,9 @@ fn say<E: Write>(err: &mut E, fault: LineFault, origins: &Origins<'_>) -> io::Re
     writeln!(err, "line: {fault}")?;
     match (fault, origins.list, origins.folder) {
         (LineFault::List(line), _, _) => return writeln!(err, "{line}"),
+        (LineFault::Manifest(fault), _, _) if fault.line > 0 => {
+            return writeln!(err, "manifest {fault}");
+        }
         (LineFault::Unread, Some(file), _) => return writeln!(err, "{file} can't be read"),
         (LineFault::UnreadFolder, _, Some(folder)) => {
             return writeln!(err, "{folder} can't be read");

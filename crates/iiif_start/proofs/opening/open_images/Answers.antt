@@ -11,6 +11,6 @@ loop-image-init g c = rw (c.new-opened.ensures.catalogue, c.new-opened.ensures.s
 pub loop-image-preserved : goal.loop-image-preserved
 loop-image-preserved g c =
     let below : c.loop-image.image-index < length c.args.images.now = search rules in
-    opened_next g.R.Opens.holds g.R.Opens.keeps c.args.opening.hold c.args.opening.skip_unfit c.args.images.now c.loop-image.image-index
+    opened_next g.R.Opens.holds g.R.Opens.keeps c.args.opening.holding c.args.opening.skip_unfit c.args.images.now c.loop-image.image-index
     _ _ _ _ (c.in_ok-open_next.ensures (take c.loop-image.image-index c.args.images.now) c.loop-image.invariant) below
     (get_or_default _ _ _ _ below)
