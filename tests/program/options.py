@@ -410,6 +410,41 @@ def log_writes_a_line_for_each_answer(program, room):
     return got, [True, ""], command(program, "--log", "a=:sample")
 
 
+def record_of(program, path, words):
+    """The lines of the record of a server that was asked for one image twice; none where there is no record."""
+    with Server(program, ["a=:sample"], words) as server:
+        for _ in range(2):
+            asked(server.port, SAMPLE_TARGET)
+        # The lines before an answer's end are written before that.
+        if not os.path.exists(path):
+            return []
+        with open(path, encoding="ascii") as file:
+            return file.read().splitlines()
+
+
+@shows("--record", 2)
+def record_has_the_first_ask_lead_and_the_second_hit(program, room):
+    path = f"{room}/record_of_two_asks"
+    lines = record_of(program, path, ["--record", path])
+    head = [it for it in lines if it.startswith("set picture ") or it.startswith("set edge ")]
+    # A step behind the number of its pass: its words, the class, perhaps a flight's number, and the key.
+    steps = [re.sub(r"^\d+ ([a-z ]+?) local .*", r"\1", it) for it in lines if it[0].isdigit()]
+    met = [it for it in steps if it in ("hit", "joins", "leads") or it.startswith("lands")]
+    got = [head, met, record_of(program, f"{room}/no_record", [])]
+    return got, [["set edge 256", "set picture a gray 8 4 4 blank"], ["leads", "lands value kept", "hit"], []], command(
+        program, "--record", "record", "a=:sample")
+
+
+@shows("--record-bytes", 2)
+def record_ends_at_its_bytes(program, room):
+    path = f"{room}/record_that_ends"
+    got = []
+    for words in (["--record-bytes", 200], []):
+        lines = record_of(program, path, ["--record", path, *words])
+        got.append((lines[-1:] == ["0 ended"], os.path.getsize(path) <= 200))
+    return got, [(True, True), (False, False)], command(program, "--record", "record", "--record-bytes", 200, "a=:sample")
+
+
 @shows("--folder")
 def a_folder_is_read_at_the_start_alone(program, room):
     folder = f"{room}/folder_read_once"
@@ -447,6 +482,11 @@ def stats_listen_answers_metrics_and_health(program, room):
         asked(server.port, SAMPLE_TARGET)
         wait_until(lambda: 'iiif_answers_total{status="200"} 1\n' in page(statistics, "/metrics")[1])
         told = 'iiif_answers_total{status="200"} 1\n' in page(statistics, "/metrics")[1]
+        asked(server.port, "/iiif/a/info.json")
+        asked(server.port, "/iiif/b/info.json")
+        counts = {f'iiif_answer_seconds_count{{kind="{it}"}} 1\n' for it in ("image", "info", "other")}
+        wait_until(lambda: all(it in page(statistics, "/metrics")[1] for it in counts))
+        told = told and all(it in page(statistics, "/metrics")[1] for it in counts)
         got = [told, page(statistics, "/health"), asked(server.port, "/health")]
     with Server(program, ["a=:sample"]):
         got.append(is_listening(statistics))

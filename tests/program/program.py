@@ -7,11 +7,12 @@
 
 Needs `cc`, which builds pieces.c: where standard output has little room, it takes five bytes a write; and reads.c, which counts reads.
 
-Tables of cases stand in cases/, in the words of tables.py; options.py has those of servers that listen, on 127.0.0.1 alone, and keeping.py
-those of what is kept for one answer. Each case runs in a room that holds data/, the symbolic link linked.tif to the sample, and the 300
-files numbered/N.tif: the sample, whose first two samples are N. Cases run side by side. Of one that fails the name, the command, what was
-wanted and what came are printed; its room then stays, as the command needs it. A case that `shows` words runs without them, too, and has
-to come to something else; `every_option_makes_a_difference` fails where an option of --help or of the manual page has no case that shows it. The last line is
+Tables of cases stand in cases/, in the words of tables.py; options.py has those of servers that listen, on 127.0.0.1 alone, control.py
+those of servers that are told something meanwhile, and keeping.py those of what is kept for one answer. Each case runs in a room that holds
+data/, the symbolic link linked.tif to the sample, and the 300 files numbered/N.tif: the sample, whose first two samples are N. Cases run
+side by side. Of one that fails the name, the command, what was wanted and what came are printed; its room then stays, as the command needs
+it. A case that `shows` words runs without them, too, and has to come to something else; `every_option_makes_a_difference` fails where an
+option of --help or of the manual page has no case that shows it. The last line is
 `N passed, M failed`; the status is 1 where one failed, or none ran.
 """
 import argparse
@@ -29,6 +30,7 @@ import sys
 import tempfile
 import time
 
+import control
 import keeping
 import options
 import tables
@@ -186,7 +188,7 @@ def main():
     parser.add_argument("--slowest", action="store_true", help="print what the slowest ten took")
     parser.add_argument("names", nargs="*", metavar="NAME")
     args = parser.parse_args()
-    program, listening, plain = os.path.abspath(args.program), [*options.CASES, *keeping.CASES], tables.cases()
+    program, listening, plain = os.path.abspath(args.program), [*control.CASES, *keeping.CASES], tables.cases()
     # Those that wait longest begin first.
     every = [(it.name, check_options, it) for it in sorted(listening, key=lambda it: -it.seconds)]
     every += [(it.name, check_table, it) for it in plain]

@@ -8,44 +8,64 @@ use std::collections::BTreeSet;
 use std::sync::{Mutex, Wait};
 use std::time::Clock;
 
-/// How many pairs of a node and an image are remembered at most.
+/// The most pairs of a node and an image that are remembered.
 const MOST: usize = 65_536;
+
+/// Asks for other versions: the pairs of a node and an image in this generation, and the number of those in all generations.
+#[derive(Drop)]
+struct Seen {
+    pairs: BTreeSet<String>,
+    count: u64,
+}
 
 /// The addresses of nodes that asked for another version of an image's file, each with the image's name.
 #[derive(Drop)]
 pub struct OtherVersions {
     alloc: Global,
-    seen: Mutex<BTreeSet<String>>,
+    seen: Mutex<Seen>,
 }
 
 impl OtherVersions {
-    /// None yet.
+    /// Makes an empty list.
     pub fn new(alloc: Global) -> OtherVersions {
         OtherVersions {
             alloc,
-            seen: Mutex::new(BTreeSet::new(alloc)),
+            seen: Mutex::new(Seen {
+                pairs: BTreeSet::new(alloc),
+                count: 0,
+            }),
         }
     }
 
-    /// Whether the node at an address didn't ask for another version of an image of this name yet. Where no more can be remembered, it did.
+    /// Forgets the pairs, since another generation has versions of its own. The count stays.
+    pub(crate) fn forget<R: Wait>(&self, rt: &R) {
+        self.seen.lock(rt).pairs = BTreeSet::new(self.alloc);
+    }
+
+    /// Remembers that the node at an address asked for another version of an image of this name. Returns whether that is new to this
+    /// generation: never where no more can be remembered.
     fn is_first<R: Wait>(&self, rt: &R, address: &str, name: &str) -> bool {
         let Ok(pair) = format!(in self.alloc; "{address} {name}") else {
             return false;
         };
         let mut seen = self.seen.lock(rt);
-        if seen.len() >= MOST || seen.contains(pair.as_str()) {
+        if seen.pairs.len() >= MOST || seen.pairs.contains(pair.as_str()) {
             return false;
         }
-        seen.insert(pair).is_ok()
+        let is_first = seen.pairs.insert(pair).is_ok();
+        if is_first {
+            seen.count = seen.count.saturating_add(1);
+        }
+        is_first
     }
 
-    /// How many nodes and images they are.
+    /// Counts the pairs of a node and an image, in all generations.
     pub fn count<R: Wait>(&self, rt: &R) -> u64 {
-        self.seen.lock(rt).len() as u64
+        self.seen.lock(rt).count
     }
 }
 
-/// Who is told that the node at an address asked for another version: it is counted and told to the log, once for each image.
+/// Notices that the node at an address asked for another version: each image's first is counted and logged.
 #[derive(Drop)]
 pub struct VersionNotice<'a> {
     pub watcher: &'a Watcher,
@@ -54,7 +74,7 @@ pub struct VersionNotice<'a> {
 
 impl<'a, R: Wait + Clock> Notice<R> for VersionNotice<'a> {
     fn report_other(&self, rt: &R, name: &str) {
-        let others = &self.watcher.neighbours.others_asked;
+        let others = &self.watcher.peers.others_asked;
         if !others.is_first(rt, self.address, name) {
             return;
         }

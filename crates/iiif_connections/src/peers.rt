@@ -1,16 +1,16 @@
 //! Connections of other nodes.
 
-use crate::connections::ends;
+use crate::connections::{Ended, Reading, ends};
 use crate::other_versions::VersionNotice;
 use crate::passes::TakenPasses;
 use crate::times::Times;
 use crate::watcher::Watcher;
 use iiif_keys::{SumKey, System, TileKey};
-use iiif_listener::{OpenConnections, Pace, PacedWriter, Serve, Visit, close};
+use iiif_listener::{Generation, OpenConnections, Pace, PacedWriter, Visit, close};
 use iiif_metrics::Visitors;
 use iiif_open_files::Opens;
-use iiif_peer_server::serve_peer;
-use iiif_peer_versions::Compared;
+use iiif_peer_versions::{Compared, FileVersions};
+use iiif_peer_wire::serve_peer;
 use iiif_server::{Gate, Link, Node, SumCalls, TileCalls};
 use iiif_start::Stored;
 use std::alloc::Global;
@@ -19,7 +19,7 @@ use std::sync::Wait;
 use std::sync::ledger::Ledger;
 use std::time::{Clock, Duration};
 
-/// The address from which a connection comes, without its port.
+/// Writes the address from which a connection comes, without its port.
 fn address_text(alloc: Global, stream: &TcpStream) -> String {
     let told = match stream.peer_addr() {
         Ok(address) => {
@@ -40,10 +40,14 @@ where
 {
     pub node: &'a Node<R, Stored<R>, J, N, T>,
     pub times: Times,
-    /// Who is told of the connections, and of asks for other versions of files than those that it knows.
+    /// The versions of the node's files, where they are compared with those that are asked for.
+    pub versions: Option<&'a FileVersions>,
+    /// The watcher of the connections, and of asks for other versions of files.
     pub watcher: &'a Watcher,
     /// The connections that are open, of viewers too.
-    pub company: &'a OpenConnections,
+    pub connections: &'a OpenConnections,
+    /// The generation that the node is.
+    pub generation: Generation<'a>,
 }
 
 impl<
@@ -53,28 +57,33 @@ impl<
     N: Link<TileKey, J, R> + Link<SumKey, J, R>,
     T: Gate<R>,
 > PeerCalls<'a, R, J, N, T> {
-    /// Answers the asks of a connection in order, and closes it. It says whether the connection was served: where a pass is missing, it is
-    /// closed unanswered.
-    fn answer(&self, rt: &R, alloc: Global, visit: Visit<'_, R>) -> bool {
+    /// Answers the asks of a connection in order, and closes it. Where a pass is missing, it is closed unanswered.
+    fn answer<'v>(&self, rt: &'v R, alloc: Global, visit: Visit<'v, R>) -> Ended<'v, R> {
         let Visit { stream, place } = visit;
         let Ok(pace) = Pace::new(rt, Duration::from_millis(self.times.whole)) else {
-            return false;
+            return Ended::Refused;
         };
         // An address that can't be told is none.
         let address = address_text(alloc, &stream);
         let connection = (&place, stream);
+        // No more is read than an ask.
+        let reading = Reading {
+            generation: self.generation,
+            reads_ahead: false,
+        };
         let Ok((mut reader, mut out)) = ends(
             rt,
             alloc,
             &self.times,
             &pace,
-            self.company,
+            self.connections,
+            reading,
             connection,
         ) else {
-            return false;
+            return Ended::Refused;
         };
         let Some(mut passes) = TakenPasses::take(rt, alloc, self.node, 1) else {
-            return false;
+            return Ended::Refused;
         };
         let notice = VersionNotice {
             watcher: self.watcher,
@@ -82,7 +91,7 @@ impl<
         };
         let service = Compared {
             service: self.node,
-            versions: self.watcher.neighbours.versions(),
+            versions: self.versions,
             notice: &notice,
         };
         serve_peer(
@@ -94,32 +103,31 @@ impl<
             &mut out,
         );
         passes.give_back(rt, self.node);
+        drop(reader);
         let PacedWriter { stream, .. } = out;
-        close(rt, &place, stream);
-        true
-    }
-}
-
-impl<
-    'a,
-    R: Opens + Wait + Clock,
-    J: System,
-    N: Link<TileKey, J, R> + Link<SumKey, J, R>,
-    T: Gate<R>,
-> Serve<R> for PeerCalls<'a, R, J, N, T> {
-    /// Answers the asks of a connection in order, and closes it. The connection is counted.
-    fn serve(&self, rt: &R, alloc: Global, visit: Visit<'_, R>) {
-        self.watcher.tally.count_opened(rt, Visitors::Peers);
-        self.company.enter();
-        if !self.answer(rt, alloc, visit) {
-            self.report_refused(rt);
+        if pace.is_moved() {
+            return Ended::Moved(Visit { stream, place });
         }
-        self.company.leave();
-        self.watcher.tally.count_closed(rt, Visitors::Peers);
+        close(rt, &place, stream);
+        Ended::Served
     }
 
-    /// Counts a connection that was closed unanswered.
-    fn report_refused(&self, rt: &R) {
-        self.watcher.tally.count_refused(rt, Visitors::Peers);
+    /// Answers the asks of a connection in order, and closes it. The connection is counted. One that waits for an ask once another
+    /// generation serves is given back.
+    pub fn serve<'v>(&self, rt: &'v R, alloc: Global, visit: Visit<'v, R>) -> Option<Visit<'v, R>> {
+        let tally = &self.watcher.tally;
+        tally.count_opened(rt, Visitors::Peers);
+        self.connections.enter();
+        let ended = self.answer(rt, alloc, visit);
+        self.connections.leave();
+        tally.count_closed(rt, Visitors::Peers);
+        match ended {
+            Ended::Served => None,
+            Ended::Refused => {
+                tally.count_refused(rt, Visitors::Peers);
+                None
+            }
+            Ended::Moved(visit) => Some(visit),
+        }
     }
 }

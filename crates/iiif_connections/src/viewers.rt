@@ -6,13 +6,13 @@ ghost use Rattle.iiif_answers.specs.Streams.{IsCame, IsConnection};
 ghost use Rattle.iiif_connections.specs.Held.{AllHeld, terms_of_held};
 ghost use Rattle.iiif_start.specs.Stored.{bytes_of};
 
-use crate::connections::ends;
+use crate::connections::{Ended, Reading, ends};
 use crate::passes::TakenPasses;
 use crate::times::Times;
 use crate::watcher::{ConnectionWatch, Watcher};
 use iiif_io::{Inlet, Outlet};
 use iiif_keys::{SumKey, System, TileKey};
-use iiif_listener::{OpenConnections, Pace, PacedWriter, Visit, close};
+use iiif_listener::{Generation, OpenConnections, Pace, PacedWriter, Visit, close};
 use iiif_metrics::Visitors;
 use iiif_open_files::Opens;
 use iiif_server::{Gate, Link, Node, Serving, SumCalls, TileCalls, Watch};
@@ -34,10 +34,12 @@ where
     /// The threads that make an image.
     pub workers: u32,
     pub times: Times,
-    /// Who is told of the connections and their answers.
+    /// The watcher of the connections and their answers.
     pub watcher: &'a Watcher,
     /// The connections that are open, of other nodes too.
-    pub company: &'a OpenConnections,
+    pub connections: &'a OpenConnections,
+    /// The generation that the node is.
+    pub generation: Generation<'a>,
 }
 
 impl<
@@ -51,49 +53,65 @@ where
     R::Handle: Send + Sync,
 {
     /// Answers the calls of a connection in order, and closes it. Where passes for its workers are missing, it is closed unanswered. The
-    /// watcher is told of it, and of each answer once it ended.
-    pub fn serve(&self, rt: &R, alloc: Global, visit: Visit<'_, R>) {
+    /// connection is counted, and each of its answers is counted and logged. One that waits for a request once another generation serves is
+    /// given back.
+    pub fn serve<'v>(&self, rt: &'v R, alloc: Global, visit: Visit<'v, R>) -> Option<Visit<'v, R>> {
         let tally = &self.watcher.tally;
         tally.count_opened(rt, Visitors::Viewers);
-        self.company.enter();
-        if !self.answer(rt, alloc, visit) {
-            self.count_refused(rt);
-        }
-        self.company.leave();
+        self.connections.enter();
+        let ended = self.answer(rt, alloc, visit);
+        self.connections.leave();
         tally.count_closed(rt, Visitors::Viewers);
+        match ended {
+            Ended::Served => None,
+            Ended::Refused => {
+                tally.count_refused(rt, Visitors::Viewers);
+                None
+            }
+            Ended::Moved(visit) => Some(visit),
+        }
     }
 
-    /// Counts a connection that was closed unanswered.
-    pub fn count_refused(&self, rt: &R) {
-        self.watcher.tally.count_refused(rt, Visitors::Viewers);
-    }
-
-    /// The same, but for the connection's being told. It says whether the connection was served.
-    fn answer(&self, rt: &R, alloc: Global, visit: Visit<'_, R>) -> bool {
+    /// Answers the calls of a connection in order, and closes it. Its answers alone are counted.
+    fn answer<'v>(&self, rt: &'v R, alloc: Global, visit: Visit<'v, R>) -> Ended<'v, R> {
         let Visit { stream, place } = visit;
         let Ok(pace) = Pace::new(rt, Duration::from_millis(self.times.whole)) else {
-            return false;
+            return Ended::Refused;
         };
         let connection = (&place, stream);
-        let Ok((reader, mut out)) = ends(rt, alloc, &self.times, &pace, self.company, connection)
-        else {
-            return false;
+        let reading = Reading {
+            generation: self.generation,
+            reads_ahead: true,
+        };
+        let Ok((reader, mut out)) = ends(
+            rt,
+            alloc,
+            &self.times,
+            &pace,
+            self.connections,
+            reading,
+            connection,
+        ) else {
+            return Ended::Refused;
         };
         let watch = ConnectionWatch {
             watcher: self.watcher,
             pace: &pace,
         };
         if !self.serve_over(rt, alloc, &watch, reader, &mut out) {
-            return false;
+            return Ended::Refused;
         }
         let PacedWriter { stream, .. } = out;
+        if pace.is_moved() {
+            return Ended::Moved(Visit { stream, place });
+        }
         close(rt, &place, stream);
-        true
+        Ended::Served
     }
 
-    /// Answers the calls of a connection in order, over any reader and writer, and tells a watch of each. It says whether passes for its
-    /// workers were there: where they are missing, nothing is answered. Of a node that holds all its images in memory and asks no other,
-    /// nothing is assumed in what is said of its answers.
+    /// Answers the calls of a connection in order, over any reader and writer, and tells a watch of each. Returns whether passes for its
+    /// workers were there: where they are missing, nothing is answered. The clauses on answers assume nothing of a node that holds all its
+    /// images in memory and asks no other.
     pub fn serve_over<V: Watch<R>, I: Inlet + Drop, W: Outlet>(
         &self,
         rt: &R,

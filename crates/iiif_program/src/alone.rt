@@ -10,7 +10,7 @@ ghost use Rattle.iiif_program.specs.Alone.{IsAnswerOfHeld};
 ghost use Rattle.iiif_start.specs.Stored.{bytes_of, keeps_of, stored_gave};
 ghost use Rattle.iiif_keys.specs.Ledgers.{all_parts};
 
-use crate::makings::Makings;
+use crate::node_config::NodeConfig;
 use crate::one::answer_one;
 use iiif_connections::Node;
 use iiif_io::Outlet;
@@ -35,7 +35,7 @@ struct Asked<'t> {
 pub fn answer_alone<'a, R, O>(
     rt: &R,
     alloc: Global,
-    alone: Makings<R>,
+    alone: NodeConfig<R>,
     target: &str,
     out: &mut O,
 ) -> Result<(), Stop<'a>>
@@ -51,11 +51,11 @@ where
     answer_counted::<R, O, Brand>(rt, alloc, alone, (tiles, sums), &asked, out)
 }
 
-/// The same, where J says what the images' names stand for, and which ledgers count the calls.
+/// Answers so, where J says what the images' names stand for, and which ledgers count the calls.
 fn answer_counted<'a, R, O, J: System + Send + Sync>(
     rt: &R,
     alloc: Global,
-    alone: Makings<R>,
+    alone: NodeConfig<R>,
     blanks: (Blank, Blank),
     asked: &Asked<'_>,
     out: &mut O,
@@ -78,7 +78,7 @@ where
         × IsAnswerOfHeld (bytes_of R.holds) alone.config alone.catalogue asked.now.target.now ((before : O) × O.fails before out.new) text
         result }
 {
-    let Makings {
+    let NodeConfig {
         config,
         catalogue,
         room,

@@ -5,7 +5,7 @@ ghost use Rattle.iiif_answers.specs.Outcomes.{IsReady};
 ghost use Rattle.iiif_answers.specs.Settings.{refusal_of};
 ghost use Rattle.iiif_program.specs.Lines.{settings_in};
 
-use crate::makings::{Makings, open_makings};
+use crate::node_config::{NodeConfig, open_node};
 use crate::work::One;
 use iiif_answers::accepted::Accepted;
 use iiif_answers::images::job_of;
@@ -39,7 +39,7 @@ fn repeats<R: Opens + Wait>(
 }
 
 /// Returns whether the answer to a target may ask for a tile or a block twice. A refusal and the information ask for none.
-fn target_repeats<R: Opens + Wait>(alloc: Global, made: &Makings<R>, target: &str) -> bool {
+fn target_repeats<R: Opens + Wait>(alloc: Global, made: &NodeConfig<R>, target: &str) -> bool {
     match outcome_of(alloc, &made.config, &made.catalogue, target.as_bytes()) {
         Outcome::Image(entry, accepted) => repeats(alloc, &made.config, entry, &accepted),
         _ => false,
@@ -54,11 +54,11 @@ pub(crate) fn open_for_one<'a, R: Opens + Wait, E: Write>(
     options: &Options<'a>,
     one: &One<'_>,
     err: &mut E,
-) -> Result<Makings<R>, Stop<'a>>
+) -> Result<NodeConfig<R>, Stop<'a>>
     requires { refusal_of (settings_in options.now) ≡ None }
     ensures config { IfOk result (λ m. m.config ≡ settings_in options.now) }
 {
-    let mut made = open_makings(rt, alloc, options, err)?;
+    let mut made = open_node(rt, alloc, options, err)?;
     if !one.cache_given && !target_repeats(alloc, &made, one.target) {
         made.room = Room {
             bytes: 0,

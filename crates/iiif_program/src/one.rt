@@ -18,7 +18,7 @@ use std::sync::Wait;
 use std::thread::Threads;
 use std::time::Clock;
 
-/// Why an answer that was cut off ends the program.
+/// Returns why an answer that was cut off ends the program.
 fn stop_by<'a>(cause: Cause) -> Stop<'a> {
     match cause {
         Cause::Writer => Stop::Write,

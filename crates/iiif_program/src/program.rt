@@ -1,21 +1,23 @@
 //! The program's work: what its words ask for, done.
 
-ghost use Rattle.std.specs.Prelude.{◌≡◌, ◌≤◌, None};
+ghost use Rattle.std.specs.Prelude.{◌≡◌, ◌≤◌, IfOk, None};
 ghost use Rattle.iiif_answers.specs.Settings.{refusal_of};
 ghost use Rattle.iiif_program.specs.Lines.{settings_in};
 
+use crate::listed::{Lists, Named};
 use crate::listening::serve;
 use crate::settings::options_of;
 use crate::target::answer_target;
+use crate::telling::{report_telling, tell_word};
 use crate::work::Work;
 use clap::ArgMatches;
 use clap::error::ErrorKind;
-use iiif_command_line::{LineFault, Listed, Options, matches};
-use iiif_image_list::FolderImage;
+use iiif_command_line::{Options, matches, telling_in};
 use iiif_io::Outlet;
 use iiif_open_files::{Opens, Texts};
+use iiif_services::Controls;
 use iiif_start::check::check;
-use iiif_start::{Origins, Stop, read_folder, read_list, report_end, report_fault, warn};
+use iiif_start::{Stop, report_end, report_fault, warn};
 use std::alloc::Global;
 use std::convert::AsStr;
 use std::net::{Net, TcpListener, TcpStream};
@@ -23,7 +25,7 @@ use std::rt::Clock;
 use std::sync::Wait;
 use std::thread::Threads;
 
-/// What the program is run for where it is given no words: the built-in sample, whole, as hexadecimal digits.
+/// The words where none are given: those for the built-in sample, whole, as hexadecimal digits.
 const SAMPLE_WORDS: [&str; 8] = [
     "--base",
     "http://localhost/iiif",
@@ -41,6 +43,7 @@ pub fn program<R, S, O, E>(rt: &R, words: &[S], out: &mut O, err: &mut E) -> u8
 where
     R: Opens
         + Texts
+        + Controls
         + Net<Listener = TcpListener, Stream = TcpStream>
         + Threads
         + Wait
@@ -76,36 +79,6 @@ where
     }
 }
 
-/// What is listed beside the words: the text of the list, and the images of the folder.
-fn listed_in<'t>(
-    text: &'t Result<Vec<u8>, LineFault>,
-    images: &'t Result<Vec<FolderImage>, LineFault>,
-) -> Result<Listed<'t>, LineFault> {
-    match (text, images) {
-        (Ok(text), Ok(images)) => Ok(Listed {
-            list: text.as_slice(),
-            folder: images.as_slice(),
-        }),
-        (Err(fault), _) => Err(*fault),
-        (_, Err(fault)) => Err(*fault),
-    }
-}
-
-/// What that was read of.
-fn origins_in<'t, 'a: 't>(
-    matches: &ArgMatches<'a>,
-    images: &'t Result<Vec<FolderImage>, LineFault>,
-) -> Origins<'t> {
-    Origins {
-        list: matches.get_str("list"),
-        folder: matches.get_str("folder"),
-        images: match images {
-            Ok(images) => images.as_slice(),
-            Err(_) => &[],
-        },
-    }
-}
-
 /// Answers what the parsed words ask for.
 fn answer_matches<R, O, E>(
     rt: &R,
@@ -117,6 +90,7 @@ fn answer_matches<R, O, E>(
 where
     R: Opens
         + Texts
+        + Controls
         + Net<Listener = TcpListener, Stream = TcpStream>
         + Threads
         + Wait
@@ -128,15 +102,23 @@ where
     E: Outlet + Send,
     ensures { result ≤ 2 }
 {
-    let text = read_list(rt, alloc, matches);
-    let images = read_folder(rt, alloc, matches);
-    let listed = listed_in(&text, &images);
-    let options = match options_of(alloc, matches, listed) {
+    match telling_in(matches) {
+        Ok(None) => {}
+        Ok(Some(telling)) => return tell_word(rt, alloc, telling, out, err),
+        Err(fault) => return report_telling(err, fault),
+    }
+    let lists = Lists::read(rt, alloc, matches);
+    let manifest = lists.manifest(alloc);
+    let options = match options_of(alloc, matches, lists.listed(matches, &manifest)) {
         Ok(options) => options,
-        Err(fault) => return report_fault(err, fault, &origins_in(matches, &images)),
+        Err(fault) => return report_fault(err, fault, &lists.origins(matches)),
     };
-    match answer(rt, alloc, &options, out, err) {
-        Ok(()) => 0,
+    let named = Named {
+        matches,
+        lists: &lists,
+    };
+    match answer(rt, alloc, &options, named, out, err) {
+        Ok(status) => status,
         Err(stop) => stop.report(err),
     }
 }
@@ -146,24 +128,27 @@ fn answer<'a, R, O, E>(
     rt: &R,
     alloc: Global,
     options: &Options<'a>,
+    named: Named<'_, '_>,
     out: &mut O,
     err: &mut E,
-) -> Result<(), Stop<'a>>
+) -> Result<u8, Stop<'a>>
 where
-    R: Opens + Net<Listener = TcpListener, Stream = TcpStream> + Threads + Wait + Clock + Sync,
+    R: Opens + Texts + Controls,
+    R: Net<Listener = TcpListener, Stream = TcpStream> + Threads + Wait + Clock + Sync,
     R: AllocGlobal,
     R::Handle: Send + Sync,
     O: Outlet,
     E: Outlet + Send,
     requires { refusal_of (settings_in options.now) ≡ None }
+    ensures { IfOk result (λ status. status ≤ 2) }
 {
-    match Work::of(options) {
-        Some(Work::Listen(listening)) => return serve(rt, alloc, options, &listening, err),
+    match Work::from_options(options) {
+        Some(Work::Listen(listening)) => return serve(rt, alloc, options, &listening, named, err),
         Some(Work::One(one)) => answer_target(rt, alloc, options, &one, out, err)?,
         // A check goes on where an image is at fault, and needs no node.
         None => check(rt, alloc, options, out)?,
     }
     // Where the warnings can't be written, what was asked for is still done.
     let _ = warn(err, options.base, &options.images);
-    Ok(())
+    Ok(0)
 }

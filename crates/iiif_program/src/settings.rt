@@ -12,7 +12,7 @@ use iiif_connections::{Config, ConfigFault, is_base_url};
 use iiif_start::Stop;
 use std::alloc::Global;
 
-/// The base URL of the words.
+/// Returns the base URL of the words.
 fn base_in<'a>(matches: &ArgMatches<'a>) -> Result<&'a str, LineFault>
     ensures { IfOk result (λ b. is_base_url b.now ≡ true) }
 {
@@ -22,8 +22,8 @@ fn base_in<'a>(matches: &ArgMatches<'a>) -> Result<&'a str, LineFault>
     }
 }
 
-/// What the words and what is listed beside them ask for, or the first thing that is wrong with them. Where the list or the folder can't be
-/// read, that comes in its place, at the images.
+/// Reads the options of the words and of the images that are listed beside them, or finds the first of them that is wrong. Where the list
+/// or the folder can't be read, that comes in its place, at the images.
 #[tactic(auto, unfolding(iiif_answers::specs::Settings::refusal_of))]
 pub(crate) fn options_of<'t, 'a: 't>(
     alloc: Global,
@@ -36,7 +36,7 @@ pub(crate) fn options_of<'t, 'a: 't>(
     options_in(alloc, matches, base, listed)
 }
 
-/// The settings in the options. Those of a line that isn't wrong are legal, so the only error is lack of memory.
+/// Makes the settings in the options. Those of a line that isn't wrong are legal, so the only error is lack of memory.
 pub(crate) fn config<'a>(alloc: Global, options: &Options<'a>) -> Result<Config, Stop<'a>>
     requires { refusal_of (settings_in options.now) ≡ None }
     ensures { IfOk result (λ c. c ≡ settings_in options.now) }

@@ -10,11 +10,11 @@ ghost use Rattle.iiif_program.specs.Lines.{settings_in};
 ghost use Rattle.iiif_keys.specs.Ledgers.{all_parts};
 ghost use Rattle.iiif_peer_link.specs.Honest.{IsHonestTo};
 ghost use Rattle.iiif_peer_versions.specs.Keys.{IsSpelled};
-ghost use Rattle.iiif_peer_versions.specs.Told.{told_in};
+ghost use Rattle.iiif_peer_versions.specs.Told.{told_by};
 
 use crate::alone::answer_alone;
 use crate::keeping::open_for_one;
-use crate::makings::{Makings, versions_for, watcher_of};
+use crate::node_config::{NodeConfig, versions_for, watcher_of};
 use crate::one::{answer_in_hex, answer_one, write_in_hex};
 use crate::work::One;
 use iiif_command_line::Options;
@@ -23,6 +23,7 @@ use iiif_io::Outlet;
 use iiif_keys::{PARTS, System};
 use iiif_open_files::Opens;
 use iiif_peer_link::Reaches;
+use iiif_peer_versions::FileVersions;
 use iiif_start::Stop;
 use std::alloc::Global;
 use std::io::Write;
@@ -61,17 +62,41 @@ where
         return write_one_alone(rt, alloc, made, one, out);
     }
     let versions = versions_for(rt, alloc, options, before.as_ref())?;
-    let watcher = watcher_of(alloc, options, &made, false, versions)?;
-    watcher.neighbours.look_up(rt, alloc);
+    let watcher = watcher_of(alloc, options, false)?;
+    watcher.peers.look_up(rt, alloc);
+    write_among(rt, made, &watcher, &versions, one, out)
+}
+
+/// Writes the body of the answer to a target by a node that is made now and asks the watcher's others.
+fn write_among<'a, R, O>(
+    rt: &R,
+    made: NodeConfig<R>,
+    watcher: &Watcher,
+    versions: &Option<FileVersions>,
+    one: &One<'_>,
+    out: &mut O,
+) -> Result<(), Stop<'a>>
+where
+    R: Opens
+        + Net<Listener = TcpListener, Stream = TcpStream>
+        + Threads
+        + Wait
+        + Clock
+        + Sync
+        + AllocGlobal,
+    R::Handle: Send + Sync,
+    O: Outlet,
+{
     let blanks = (Blank::new(PARTS), Blank::new(PARTS));
-    write_one_among::<R, O, Brand>(rt, made, blanks, &watcher, one, out)
+    let versions = versions.as_ref();
+    write_one_among::<R, O, Brand>(rt, made, blanks, watcher, versions, one, out)
 }
 
 /// Writes the body of the answer to a target by a node that asks no other, perhaps as hexadecimal digits.
 fn write_one_alone<'a, R, O>(
     rt: &R,
     alloc: Global,
-    made: Makings<R>,
+    made: NodeConfig<R>,
     one: &One<'_>,
     out: &mut O,
 ) -> Result<(), Stop<'a>>
@@ -88,12 +113,14 @@ where
     write_in_hex(answered, &body, out)
 }
 
-/// Writes the body of the answer to a target by a node that asks the watcher's others, perhaps as hexadecimal digits.
+/// Writes the body of the answer to a target by a node that asks the watcher's others, by these versions of the images' files, if any;
+/// perhaps as hexadecimal digits.
 fn write_one_among<'a, R, O, J: System + Send + Sync>(
     rt: &R,
-    made: Makings<R>,
+    made: NodeConfig<R>,
     blanks: (Blank, Blank),
     watcher: &Watcher,
+    versions: Option<&FileVersions>,
     one: &One<'_>,
     out: &mut O,
 ) -> Result<(), Stop<'a>>
@@ -116,18 +143,19 @@ where
         J.stable name }
     requires edge { made.config.edge ≡ J.edge }
     requires honest { IsTrue J.honest → IsTrue R.Reaches.keeps
-        × IsHonestTo (IsSpelled (told_in watcher.now.neighbours.versions)) R.answers J.stable J.pictures }
+        × IsHonestTo (IsSpelled (told_by versions)) R.answers J.stable J.pictures }
     requires tiles { (blanks.0.name ≡ J.tiles_name) × (blanks.0.parts ≡ J.tiles_parts) × (J.tiles_parts ≡ all_parts) }
     requires sums { (blanks.1.name ≡ J.sums_name) × (blanks.1.parts ≡ J.sums_parts) × (J.sums_parts ≡ all_parts) }
 {
-    let Makings {
+    let NodeConfig {
         config,
         catalogue,
         room,
         ..
     } = made;
     let (alloc, workers) = (rt.alloc(), config.workers());
-    let Ok(node) = among::<R, R, J>(alloc, config, catalogue, watcher, room, blanks) else {
+    let Ok(node) = among::<R, R, J>(alloc, config, catalogue, watcher, versions, room, blanks)
+    else {
         return Err(Stop::Memory);
     };
     if one.hex {

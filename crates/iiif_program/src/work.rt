@@ -1,4 +1,4 @@
-//! What is asked of a node.
+//! Work of a node.
 
 use iiif_command_line::{Mode, Options};
 use iiif_connections::Times;
@@ -12,17 +12,17 @@ pub(crate) struct One<'a> {
     pub cache_given: bool,
 }
 
-/// Where a node listens, for how long it waits, whether a line is written for each answer, and how much memory is written to before it
-/// listens.
+/// Where a node listens, for how long it waits, whether a line is written for each answer, and the file of the record of its steps, with
+/// the most bytes that it gets.
 #[derive(Clone, Copy)]
 pub(crate) struct Listening<'a> {
     pub addresses: Addresses<'a>,
     pub times: Times,
     pub logs: bool,
-    pub touch_bytes: u64,
+    pub record: Option<(&'a str, u64)>,
 }
 
-/// What is asked of a node: the answer to one target, or an answer to each call of those who connect.
+/// The work of a node: the answer to one target, or an answer to each call of those who connect.
 #[derive(Clone, Copy)]
 pub(crate) enum Work<'a> {
     One(One<'a>),
@@ -30,8 +30,8 @@ pub(crate) enum Work<'a> {
 }
 
 impl<'a> Work<'a> {
-    /// What the options ask of a node. A check of the images asks nothing of one.
-    pub(crate) fn of(options: &'a Options<'_>) -> Option<Work<'a>> {
+    /// Finds the work of a node in the options. A check of the images has none.
+    pub(crate) fn from_options(options: &'a Options<'_>) -> Option<Work<'a>> {
         match options.mode {
             Mode::One {
                 target,
@@ -48,11 +48,14 @@ impl<'a> Work<'a> {
                 log,
                 stats,
                 peer_only,
+                control,
+                record,
             } => Some(Work::Listen(Listening {
                 addresses: Addresses {
                     viewers,
                     peers,
                     statistics: stats,
+                    control,
                     per_address: options.limits.per_address,
                     known: if peer_only {
                         Some(options.peers.as_slice())
@@ -62,7 +65,7 @@ impl<'a> Work<'a> {
                 },
                 times: Times::within(options.limits),
                 logs: log,
-                touch_bytes: options.touch_bytes,
+                record,
             })),
             Mode::Check => None,
         }

@@ -5,14 +5,16 @@
 //! - `iiif_serve --base URL --listen ADDR [OPTION].. NAME=FILE..` serves HTTP until it is stopped.
 //! - `iiif_serve --base URL --one TARGET [OPTION].. NAME=FILE..` writes the body of one answer to standard output and ends.
 //! - `iiif_serve --base URL --check [OPTION].. NAME=FILE..` says of each image what it is and ends.
+//! - `iiif_serve --tell PATH WORD` tells a server that runs with `--control PATH` to give its status, drain, reload or stop.
 //! - With no words at all it writes the image of a built-in picture, 4 by 4 samples, as hexadecimal digits.
 //!
 //! The manual page (`packaging/iiif_serve.1`) has all options, `docs/operate/OPERATING.md` what an operator needs besides.
 //!
 //! # Exit status
 //!
-//! - 0: it was answered, by a refusal too, or each image that was checked can be served.
-//! - 1: it failed while running. Standard error says `run: listen`, `run: memory`, `run: write` or `run: source`.
+//! - 0: it was answered, by a refusal too, or each image that was checked can be served. A server that was told to end answered all calls.
+//! - 1: it failed while running. Standard error says `run: listen`, `run: memory`, `run: write`, `run: source`, `run: record`,
+//!   `run: cut` or `run: tell`.
 //! - 2: a word or an image is at fault. Standard error says which (`line: base`, `image scan: 4`), and in a second line what to do.
 //!
 //! # What it writes
@@ -25,13 +27,14 @@
 //!
 //! # What is done where
 //!
-//! What stands here is no more than what only a program can do: it takes the words, the two outputs and the process's exit status.
+//! Here stands no more than a program alone can do: it takes the words, the two outputs and the process's exit status.
 //!
 //! 1. `iiif_command_line` has the words, and what of them is refused.
 //! 2. `iiif_start` opens the images that they name: a layout of each file, as many open files as the words allow, and the files that
 //!    are held in memory.
 //! 3. `iiif_program` makes the node of them, with its limits and its caches, and does what the words ask for.
-//! 4. `iiif_services` listens, `iiif_listener` starts a thread for each connection, and `iiif_connections` serves it.
+//! 4. `iiif_services` listens, and hears what the server is told; `iiif_listener` starts a thread for each connection of the generation
+//!    that serves, and `iiif_connections` serves it. `iiif_recorder` writes the steps of its caches, where they are recorded.
 //! 5. `iiif_server` answers a connection's calls in order: `iiif_http_front` reads their heads, `iiif_request` and `iiif_canonical` read
 //!    what they ask for, `iiif_answers` has the texts of refusals, redirects and information.
 //! 6. `iiif_delivery` sends an image in bands. `iiif_planner` says which tiles and sums the image needs, and cuts it into bands;
@@ -60,7 +63,7 @@ use std::process::ExitCode;
 /// How much memory is taken and given back at the start.
 const GIVEN_BACK: usize = 4 << 20;
 
-/// What is said where a word isn't UTF-8, and in a second line what to do.
+/// The lines where a word isn't UTF-8: the second one says what to do.
 const NOT_UTF8: &str = "line: not UTF-8\neach word has to be UTF-8: rename a file whose name isn't";
 
 /// Lets the C library's allocator keep what is given back, up to twice the size of the largest piece that was: from then on the

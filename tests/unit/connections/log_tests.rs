@@ -3,14 +3,13 @@
 use crate::connections::nodes::{SAMPLE, Scene};
 use crate::connections::pipe::{Pipe, given_to, new_pipe, read_from_now, wait_for_line};
 use crate::connections::viewers::{Sends, Text, connected, is_answered, is_redirected};
-use crate::connections::visits::{ANY, HELD, Visit, logged};
+use crate::connections::visits::{ANY, Visit, logged};
 use crate::fixtures::{has_end, is_same, is_unwanted};
 use iiif_connections::{Cause, ConnectionWatch, Cut, Nodes, Sent, Watch, Watcher};
 use iiif_http_front::{Call, Method};
 use iiif_listener::Pace;
 use iiif_keys::Fault;
 use iiif_log::write_lines;
-use iiif_start::Images;
 use std::alloc::Global;
 use std::io::Write;
 use std::net::{TcpListener, TcpStream};
@@ -101,12 +100,7 @@ fn log_of<R: Wait + Clock>(
         peers: &[],
         ask: 1_000,
     };
-    let images = Images {
-        served: 1,
-        unfit: 0,
-        held: HELD,
-    };
-    let watcher = Watcher::new(alloc, true, images, &nodes)?;
+    let watcher = Watcher::new(alloc, true, &nodes)?;
     let pace = Pace::new(rt, Duration::from_millis(1_000))?;
     let watch = ConnectionWatch {
         watcher: &watcher,

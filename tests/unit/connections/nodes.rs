@@ -3,19 +3,25 @@
 use crate::connections::pipe::{Inflow, Pipe};
 use crate::fixtures::is_same;
 use iiif_canonical::Limits;
-use iiif_connections::serving::serve;
 use iiif_connections::times::USUAL;
-use iiif_connections::{Catalogue, Config, Link, Manner, Node, Nodes, Room, Times, Watcher, among};
+use iiif_connections::{
+    Catalogue, Config, Link, Node, Nodes, Room, Server, Start, Times, Watcher, among,
+    serve_generation,
+};
 use iiif_keys::{PARTS, SumKey, System, TileKey};
 use iiif_open_files::Opens;
-use iiif_services::Listeners;
-use iiif_start::{Held, Images, Opening, Stored, open_images};
+use iiif_listener::{Inbox, OpenConnections};
+use iiif_log::write_lines;
+use iiif_server::{Gate, SumCalls, TileCalls};
+use iiif_services::{AllPlaces, Ended, Listeners, Starts, Work, take_all};
+use iiif_start::{Held, Holding, Images, Opening, Stored, open_images};
 use std::alloc::Global;
 use std::marker::Brand;
 use std::net::{Net, TcpListener, TcpStream};
 use std::num::NonZeroUsize;
 use std::sync::Wait;
-use std::sync::ledger::Blank;
+use std::sync::ledger::{Blank, Ledger};
+use std::thread;
 use std::thread::Threads;
 use std::time::Clock;
 
@@ -57,8 +63,14 @@ pub(crate) const SAMPLE: Scene<'static, 'static> = Scene {
 /// it out.
 const OWNER: &str = "other85";
 
-/// The watcher of a scene's node, with these files held in memory.
-pub(crate) fn watcher_of(alloc: Global, scene: &Scene<'_, '_>, held: Held) -> Option<Watcher> {
+/// The files that are told to be held.
+const HELD: Held = Held {
+    images: 3,
+    bytes: 456,
+};
+
+/// The watcher of a scene's node.
+pub(crate) fn watcher_of(alloc: Global, scene: &Scene<'_, '_>) -> Option<Watcher> {
     let mut peers = Vec::new(alloc);
     if let Some(owner) = scene.owner {
         peers.push((OWNER, owner)).ok()?;
@@ -69,12 +81,7 @@ pub(crate) fn watcher_of(alloc: Global, scene: &Scene<'_, '_>, held: Held) -> Op
         peers: &peers,
         ask: scene.times.ask,
     };
-    let images = Images {
-        served: scene.images.len() as u64,
-        unfit: 0,
-        held,
-    };
-    Watcher::new(alloc, scene.logs, images, &nodes).ok()
+    Watcher::new(alloc, scene.logs, &nodes).ok()
 }
 
 /// How much a group keeps.
@@ -116,9 +123,9 @@ pub(crate) struct Stage<'a> {
 }
 
 /// The counts of a node and of its watcher so far.
-fn counted<R: Opens + Wait, J: System, N>(
+fn counted<R: Opens + Wait, J: System, N, T>(
     rt: &R,
-    node: &Node<R, Stored<R>, J, N>,
+    node: &Node<R, Stored<R>, J, N, T>,
     watcher: &Watcher,
 ) -> Counts {
     let tiles = node.groups().tiles().book(rt);
@@ -134,22 +141,110 @@ fn counted<R: Opens + Wait, J: System, N>(
 }
 
 /// Whether all passes of a node are home.
-fn are_home<R: Opens + Wait, J: System, N>(
+fn are_home<R: Opens + Wait, J: System, N, T>(
     rt: &R,
     alloc: Global,
-    node: &Node<R, Stored<R>, J, N>,
+    node: &Node<R, Stored<R>, J, N, T>,
 ) -> bool {
     let groups = node.groups();
     groups.tiles().gather(rt, Vec::new(alloc)).is_ok()
         && groups.sums().gather(rt, Vec::new(alloc)).is_ok()
 }
 
-/// Serves by one node until a listener is stopped, writes the log, and says what the node counted, where each connection gave its passes
-/// back.
-fn serve_by<R, J, N>(
+/// A node that serves as the only generation.
+#[derive(Drop)]
+struct Only<'x, 'p, R: Opens + Wait, J: System, N, T>
+where
+    TileCalls<J>: Ledger,
+    SumCalls<J>: Ledger,
+{
+    server: &'x Server<'x, 'p, R>,
+    node: &'x Node<R, Stored<R>, J, N, T>,
+    images: Images,
+}
+
+impl<'x, 'p, R, J, N, T> Work for Only<'x, 'p, R, J, N, T>
+where
+    R: Opens + Net<Listener = TcpListener, Stream = TcpStream> + Threads + Wait + Clock + Sync,
+    R::Handle: Send + Sync,
+    J: System + Send + Sync,
+    N: Link<TileKey, J, R> + Link<SumKey, J, R> + Sync,
+    T: Gate<R> + Sync,
+{
+    fn run(self) -> Ended {
+        let Only {
+            server,
+            node,
+            images,
+        } = self;
+        server.inbox.enter(server.rt);
+        let start = Start {
+            number: 1,
+            images,
+            versions: None,
+            said: Vec::new(server.alloc),
+        };
+        serve_generation(server, node, start);
+        server.inbox.end(server.rt);
+        Ended::Listener
+    }
+}
+
+/// Serves by one node until a listener is stopped, and closes the log.
+fn serve_server<R, J, N, T>(
     rt: &R,
     alloc: Global,
-    node: &Node<R, Stored<R>, J, N>,
+    node: &Node<R, Stored<R>, J, N, T>,
+    served: u64,
+    times: Times,
+    stage: Stage<'_>,
+) -> Option<()>
+where
+    R: Opens + Net<Listener = TcpListener, Stream = TcpStream> + Threads + Wait + Clock + Sync,
+    R::Handle: Send + Sync,
+    J: System + Send + Sync,
+    N: Link<TileKey, J, R> + Link<SumKey, J, R> + Sync,
+    T: Gate<R> + Sync,
+{
+    let listeners = stage.listeners;
+    let places = AllPlaces::new(alloc, 0).ok()?;
+    let inbox = Inbox::new(rt, alloc, listeners.doors()).ok()?;
+    let (connections, starts) = (OpenConnections::new(), Starts::new());
+    let server = Server {
+        rt,
+        alloc,
+        workers: 2,
+        times,
+        watcher: stage.watcher,
+        connections: &connections,
+        listeners,
+        inbox: &inbox,
+        starts: &starts,
+    };
+    let only = Only {
+        server: &server,
+        node,
+        images: Images {
+            served,
+            unfit: 0,
+            held: HELD,
+        },
+    };
+    let checker = server.health_checker();
+    take_all(rt, alloc, listeners, &places, &inbox, &server, checker, only);
+    if let Some(log) = &stage.watcher.log {
+        log.close(rt);
+    }
+    Some(())
+}
+
+/// Serves by one node until a listener is stopped, writes the log, and says what the node counted, where each connection gave its passes
+/// back.
+fn serve_by<R, J, N, T>(
+    rt: &R,
+    alloc: Global,
+    node: &Node<R, Stored<R>, J, N, T>,
+    served: u64,
     times: Times,
     stage: Stage<'_>,
 ) -> Option<Counts>
@@ -158,15 +253,22 @@ where
     R::Handle: Send + Sync,
     J: System + Send + Sync,
     N: Link<TileKey, J, R> + Link<SumKey, J, R> + Sync,
+    T: Gate<R> + Sync,
 {
     let pipe = stage.pipe;
-    let mut log = Inflow { rt, pipe };
-    let manner = Manner {
-        workers: 2,
-        times,
-        watcher: stage.watcher,
+    let mut lines = Inflow { rt, pipe };
+    let served = match &stage.watcher.log {
+        Some(log) => {
+            let (_, served) = thread::join(
+                rt,
+                || write_lines(rt, alloc, log, &mut lines),
+                || serve_server(rt, alloc, node, served, times, stage),
+            );
+            served
+        }
+        None => serve_server(rt, alloc, node, served, times, stage),
     };
-    let _ = serve(rt, alloc, node, manner, stage.listeners, &mut log);
+    served?;
     if are_home(rt, alloc, node) {
         Some(counted(rt, node, stage.watcher))
     } else {
@@ -182,6 +284,7 @@ fn serve_alone<R, J>(
     catalogue: Catalogue<R, Stored<R>>,
     tiles: Blank,
     sums: Blank,
+    served: u64,
     times: Times,
     stage: Stage<'_>,
 ) -> Option<Counts>
@@ -191,7 +294,7 @@ where
     J: System + Send + Sync,
 {
     let node = Node::<R, Stored<R>, J>::alone(alloc, config, catalogue, room()?, tiles, sums).ok()?;
-    serve_by(rt, alloc, &node, times, stage)
+    serve_by(rt, alloc, &node, served, times, stage)
 }
 
 /// Serves by a node among others.
@@ -202,6 +305,7 @@ fn serve_among<R, J>(
     catalogue: Catalogue<R, Stored<R>>,
     tiles: Blank,
     sums: Blank,
+    served: u64,
     times: Times,
     stage: Stage<'_>,
 ) -> Option<Counts>
@@ -212,8 +316,8 @@ where
 {
     let watcher = stage.watcher;
     let blanks = (tiles, sums);
-    let node = among::<R, R, J>(alloc, config, catalogue, watcher, room()?, blanks).ok()?;
-    serve_by(rt, alloc, &node, times, stage)
+    let node = among::<R, R, J>(alloc, config, catalogue, watcher, None, room()?, blanks).ok()?;
+    serve_by(rt, alloc, &node, served, times, stage)
 }
 
 /// Serves by a scene's node at the listeners until one is stopped, writes the log where the watcher has one, and says what was counted.
@@ -238,16 +342,24 @@ where
     let config = Config::new(alloc, BASE, scene.edge, limits, 64, 2).ok()?;
     let opening = Opening {
         open_files: NonZeroUsize::new(scene.open_files)?,
-        hold: scene.hold,
+        holding: Holding {
+            bytes: scene.hold,
+            bag: None,
+        },
         skip_unfit: false,
     };
     let catalogue = open_images(rt, alloc, scene.images, opening)
         .ok()?
         .catalogue;
     let (tiles, sums) = (Blank::new(PARTS), Blank::new(PARTS));
+    let served = scene.images.len() as u64;
     if scene.owner.is_none() {
-        return serve_alone::<R, Brand>(rt, alloc, config, catalogue, tiles, sums, times, stage);
+        return serve_alone::<R, Brand>(
+            rt, alloc, config, catalogue, tiles, sums, served, times, stage,
+        );
     }
-    stage.watcher.neighbours.look_up(rt, alloc);
-    serve_among::<R, Brand>(rt, alloc, config, catalogue, tiles, sums, times, stage)
+    stage.watcher.peers.look_up(rt, alloc);
+    serve_among::<R, Brand>(
+        rt, alloc, config, catalogue, tiles, sums, served, times, stage,
+    )
 }

@@ -4,7 +4,7 @@ use crate::connections::nodes::{Counts, SAMPLE, Scene, Stage, are_known, serve_t
 use crate::connections::peers::{Asked, HALVED, LIMIT};
 use crate::connections::pipe::new_pipe;
 use crate::connections::viewers::{Sends, Text, address_of};
-use crate::connections::visits::{ANY, HELD, Visit, listeners_of, served, visited};
+use crate::connections::visits::{ANY, Visit, listeners_of, served, visited};
 use crate::fixtures::files::DEEP_HIGH_FIRST;
 use crate::fixtures::is_same;
 use crate::fixtures::messages::{
@@ -88,8 +88,8 @@ where
         owner: Some(addresses.0),
         ..SAMPLE
     };
-    let watcher = watcher_of(rt.alloc(), &first, HELD)?;
-    let other = watcher_of(rt.alloc(), &second, HELD)?;
+    let watcher = watcher_of(rt.alloc(), &first)?;
+    let other = watcher_of(rt.alloc(), &second)?;
     let at_first = Stage {
         watcher: &watcher,
         listeners: all.0,

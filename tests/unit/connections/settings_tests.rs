@@ -40,6 +40,7 @@ fn settings_left_out_have_their_defaults(rt: HostRuntime) {
     let listed = Listed {
         list: b"",
         folder: &[],
+        bag: None,
     };
     match options_in(rt.alloc(), &found, BASE, Ok(listed)) {
         Ok(options) => assert!(rt; are_left_out(&options)),

@@ -13,18 +13,11 @@ use crate::connections::viewers::{Sends, give_way, is_sent};
 use iiif_listener::stop;
 use iiif_open_files::Opens;
 use iiif_services::{Addresses, Listeners};
-use iiif_start::Held;
 use std::net::{Net, TcpListener, TcpStream};
 use std::sync::Wait;
 use std::thread;
 use std::thread::Threads;
 use std::time::Clock;
-
-/// The files that are told to be held.
-pub(crate) const HELD: Held = Held {
-    images: 3,
-    bytes: 456,
-};
 
 /// One of a node's listeners.
 #[derive(Clone, Copy)]
@@ -121,6 +114,7 @@ pub(crate) fn listeners_of(rt: &HostRuntime, statistics: Option<&str>) -> Option
         viewers: ANY,
         peers: Some(ANY),
         statistics,
+        control: None,
         per_address: 0,
         known: None,
     };
@@ -170,7 +164,7 @@ where
         + AllocGlobal,
     R::Handle: Send + Sync,
 {
-    let watcher = watcher_of(rt.alloc(), scene, HELD)?;
+    let watcher = watcher_of(rt.alloc(), scene)?;
     let listeners = listeners_of(host, scene.statistics)?;
     let stage = Stage {
         watcher: &watcher,

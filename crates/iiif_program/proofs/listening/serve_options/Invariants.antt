@@ -1,7 +1,7 @@
 use Rattle.std.specs.Prelude.{true, false}
 use Rattle.iiif_tile_group.specs.Named.{gave_of, pictures_of, stable_of}
 use Rattle.iiif_start.specs.Stored.{bytes_of, keeps_of, stored_gave}
-use Rattle.iiif_program.proofs.listening.serve.Given as goal
+use Rattle.iiif_program.proofs.listening.serve_options.Given as goal
 
 -- what the catalogue shows, and the ledgers that were just made; no other node is asked
 abbrev pub ghosts-serve_alone : goal.ghosts-serve_alone

@@ -1,7 +1,7 @@
 use Rattle.std.specs.Prelude.{false}
 use Rattle.iiif_tile_group.specs.Named.{gave_of, pictures_of, stable_of}
 use Rattle.iiif_start.specs.Stored.{bytes_of, keeps_of, stored_gave}
-use Rattle.iiif_program.proofs.target.answer_target.Given as goal
+use Rattle.iiif_program.proofs.target.write_among.Given as goal
 
 -- what the catalogue shows, and the ledgers that were just made; of other nodes nothing is promised
 abbrev pub ghosts-write_one_among : goal.ghosts-write_one_among

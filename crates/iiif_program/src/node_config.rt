@@ -1,4 +1,4 @@
-//! What the node of the program is made of.
+//! The parts of the program's node.
 
 ghost use Rattle.std.specs.Prelude.{◌≡◌, None, IfOk};
 ghost use Rattle.iiif_answers.specs.Settings.{refusal_of};
@@ -9,27 +9,29 @@ use iiif_command_line::{Mode, Options};
 use iiif_connections::{Catalogue, Config, Nodes, Room, Times, Watcher};
 use iiif_open_files::Opens;
 use iiif_peer_versions::FileVersions;
-use iiif_start::{Held, Images, Opening, Stop, Stored, open_images, read_versions, report_unfit};
+use iiif_start::{
+    Held, Holding, Images, Opening, Stop, Stored, open_images, read_versions, report_unfit,
+};
 use std::alloc::Global;
 use std::io::Write;
 use std::sync::Wait;
 
-/// What a node is made of: what it was told, its images, and the room of each group's cache; and how many images were left out.
+/// The parts of a node: its settings, its images, and the room of each group's cache; and how many images were left out.
 #[derive(Drop)]
-pub struct Makings<R: Opens + Wait> {
+pub struct NodeConfig<R: Opens + Wait> {
     pub config: Config,
     pub catalogue: Catalogue<R, Stored<R>>,
     pub room: Room,
     pub unfit: u64,
 }
 
-/// What the node of the options is made of: the images are opened. Of those that are left out it is said why they can't be served.
-pub(crate) fn open_makings<'a, R: Opens + Wait, E: Write>(
+/// Makes the parts of the options' node: the images are opened. Of those that are left out it is said why they can't be served.
+pub(crate) fn open_node<'a, R: Opens + Wait, E: Write>(
     rt: &R,
     alloc: Global,
     options: &Options<'a>,
     err: &mut E,
-) -> Result<Makings<R>, Stop<'a>>
+) -> Result<NodeConfig<R>, Stop<'a>>
     requires { refusal_of (settings_in options.now) ≡ None }
     ensures config { IfOk result (λ m. m.config ≡ settings_in options.now) }
     ensures bytes { IfOk result (λ m. m.room.bytes ≡ options.now.cache_bytes) }
@@ -38,13 +40,16 @@ pub(crate) fn open_makings<'a, R: Opens + Wait, E: Write>(
     let config = config(alloc, options)?;
     let opening = Opening {
         open_files: options.open_files,
-        hold: options.hold,
+        holding: Holding {
+            bytes: options.hold,
+            bag: options.bag,
+        },
         skip_unfit: options.skip_unfit,
     };
     let opened = open_images(rt, alloc, &options.images, opening)?;
     // Where that can't be written, the others are served all the same.
     let _ = report_unfit(err, &opened.unfit);
-    Ok(Makings {
+    Ok(NodeConfig {
         config,
         unfit: opened.unfit.len() as u64,
         catalogue: opened.catalogue,
@@ -55,8 +60,8 @@ pub(crate) fn open_makings<'a, R: Opens + Wait, E: Write>(
     })
 }
 
-/// The versions of the images' files, where the options ask for them: all that are known now or, behind an earlier look, those that are as
-/// they were then.
+/// Reads the versions of the images' files, where the options ask for them: all that are known now or, behind an earlier look, those that
+/// are as they were then.
 pub(crate) fn versions_for<'a, R: Opens>(
     rt: &R,
     alloc: Global,
@@ -69,14 +74,24 @@ pub(crate) fn versions_for<'a, R: Opens>(
     Ok(Some(read_versions(rt, alloc, &options.images, before)?))
 }
 
-/// Who is told of the answers of a node that is made of these, in a log too where one is wanted, and of the asks of the other nodes of the
-/// options, who knows these versions of the images' files, if any. The only error is lack of memory.
-pub(crate) fn watcher_of<'a, R: Opens + Wait>(
+/// Counts the images of a node that is made of these.
+pub(crate) fn images_of<'a, R: Opens + Wait>(
+    made: &NodeConfig<R>,
+    options: &Options<'a>,
+) -> Images {
+    Images {
+        served: (options.images.len() as u64).saturating_sub(made.unfit),
+        unfit: made.unfit,
+        held: Held::among(&made.catalogue, &options.images),
+    }
+}
+
+/// Makes the watcher of the nodes' answers, with a log where one is wanted, and of the asks of the options' other nodes. The only error is
+/// lack of memory.
+pub(crate) fn watcher_of<'a>(
     alloc: Global,
     options: &Options<'a>,
-    made: &Makings<R>,
     logs: bool,
-    versions: Option<FileVersions>,
 ) -> Result<Watcher, Stop<'a>> {
     let listen = match options.mode {
         Mode::Listen { peers, .. } => peers.unwrap_or(""),
@@ -88,17 +103,8 @@ pub(crate) fn watcher_of<'a, R: Opens + Wait>(
         peers: &options.peers,
         ask: Times::within(options.limits).ask,
     };
-    let held = Held::among(&made.catalogue, &options.images);
-    let images = Images {
-        served: (options.images.len() as u64).saturating_sub(made.unfit),
-        unfit: made.unfit,
-        held,
-    };
-    match Watcher::new(alloc, logs, images, &nodes) {
-        Ok(mut watcher) => {
-            watcher.neighbours.versions = versions;
-            Ok(watcher)
-        }
+    match Watcher::new(alloc, logs, &nodes) {
+        Ok(watcher) => Ok(watcher),
         Err(_) => Err(Stop::Memory),
     }
 }
