@@ -1,5 +1,6 @@
 #!/usr/bin/env python3
-"""Starts what a package holds as its unit says, from the folder that it was unpacked to, and asks it for its sample's information and image.
+"""Starts what a package holds as its unit says, from the folder that it was unpacked to, asks it for its sample's information and image, and
+has it reload and end as the unit says.
 
     packaging/unpacked.py PACKAGE
 """
@@ -26,20 +27,20 @@ def settings(root):
     return {"${BASE}": [base], "${LISTEN}": [f"127.0.0.1:{PORT}"], "$OPTIONS": options.split(), "$IMAGES": images.split()}
 
 
-def command(root):
-    """The unit's ExecStart, with its variables, below the folder."""
+def command(root, name="ExecStart"):
+    """The unit's ExecStart, or another of its commands, with its variables, below the folder."""
     with open(f"{root}/lib/systemd/system/iiif-serve.service") as unit:
-        (line,) = [it.strip().removeprefix("ExecStart=") for it in unit if it.startswith("ExecStart=")]
-    named = settings(root)
+        (line,) = [it.strip().removeprefix(name + "=").removeprefix("-") for it in unit if it.startswith(name + "=")]
+    named = settings(root) | {"/run/iiif-serve/control": [f"{root}/control"]}
     words = [word for it in shlex.split(line) for word in named.get(it, [it])]
     return [root + words[0], *words[1:]]
 
 
 def answer(target):
-    """The bytes of an answer of status 200, asked again while nobody listens yet."""
+    """The bytes of an answer of status 200, asked again while nobody listens yet. It comes once the images are open."""
     for _ in range(100):
         try:
-            with urllib.request.urlopen(f"http://127.0.0.1:{PORT}/iiif/sample/{target}", timeout=10) as it:
+            with urllib.request.urlopen(f"http://127.0.0.1:{PORT}/iiif/sample/{target}", timeout=100) as it:
                 return it.read()
         except urllib.error.URLError:
             time.sleep(0.1)
@@ -56,10 +57,14 @@ def main(package):
         try:
             if b'"type":"ImageService3"' not in answer("info.json") or len(answer("full/max/0/default.tif")) != 190:
                 raise SystemExit("check: another answer than the sample's")
+            for name in ("ExecReload", "ExecStop"):
+                subprocess.run(command(root, name), check=True, timeout=60)
+            if server.wait(20) != 0:
+                raise SystemExit(f"check: it was drained, and ended with {server.returncode}")
         finally:
             server.terminate()
             server.wait()
-    print("package: unpacked, started as its unit says, answered")
+    print("package: unpacked, started, reloaded and drained as its unit says, answered")
 
 
 if __name__ == "__main__":
