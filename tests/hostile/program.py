@@ -63,12 +63,24 @@ class Server:
         for _ in range(4000):
             if self.process.poll() is not None:
                 raise Refused(self.process.returncode, self.line())
-            try:
-                self.connect().close()
+            if self.serves():
                 return
-            except ConnectionRefusedError:
-                time.sleep(0.005)
+            time.sleep(0.005)
         raise Refused(None, "doesn't listen")
+
+    def serves(self):
+        """Whether viewers are served: a connection that says nothing is ended then. Until the images are open it waits, and it is ended too
+        where the start fails, right before the program ends."""
+        try:
+            if not sent_to(self.port, [])[1]:
+                return False
+        except ConnectionRefusedError:
+            return False
+        try:
+            self.process.wait(0.05)
+        except subprocess.TimeoutExpired:
+            return True
+        return False
 
     def line(self):
         self.said.seek(0)

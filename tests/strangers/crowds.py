@@ -34,11 +34,11 @@ def waits(server, most=10):
     return most
 
 
-def keep_up(server, over, act, buffer=None):
+def keep_up(server, over, act, buffer=None, source=CROWD):
     """Connects and acts, and connects anew where the connection is closed."""
     while not over.is_set():
         try:
-            with connected(server.port, 5, buffer, CROWD) as link:
+            with connected(server.port, 5, buffer, source) as link:
                 act(link, over)
         except OSError:
             pass
@@ -50,6 +50,16 @@ def read_slowly(link, over):
     link.sendall(get(LARGE))
     while not over.wait(1):
         if not link.recv(230):
+            return
+
+
+def read_below_the_limit(link, over):
+    """Takes 6,000 bytes a second of an answer of 50 MB."""
+    link.sendall(get(LARGE))
+    if link.recv(1):
+        over.begun.release()
+    while not over.wait(0.2):
+        if not link.recv(1200):
             return
 
 
@@ -72,15 +82,34 @@ def ask_now_and_then(link, over):
         over.wait(4.5)
 
 
-def crowd(program, room, act, seconds, buffer=None, options=()):
-    """How many of others are answered while 64 connections act so, and come again where they are closed."""
+class Attack(threading.Event):
+    """An attack, which is set once it is over. It counts the answers that its connections have begun to take."""
+
+    def __init__(self):
+        super().__init__()
+        self.begun = threading.Semaphore(0)
+
+    def await_begun(self, count, seconds=200):
+        """Waits until so many answers have begun: large ones are begun one after another, however many ask at once."""
+        ends = time.monotonic() + seconds
+        for _ in range(count):
+            if not self.begun.acquire(timeout=max(0, ends - time.monotonic())):
+                raise RuntimeError(f"fewer than {count} answers begun")
+
+
+def crowd(program, room, act, seconds, buffer=None, options=(), sources=(CROWD,), before=2, reads=False):
+    """How many of others are answered while 64 connections act so, and come again where they are closed. They come from these addresses in
+    turn, and so many seconds before the others; where they read, so many seconds after each has begun to."""
     images = [f"big={room}/big.tif", "s=:sample"]
     with Server(program, images, ["--max", 8192, *options]) as server:
-        over = threading.Event()
-        threads = [threading.Thread(target=keep_up, args=(server, over, act, buffer), daemon=True) for _ in range(PLACES)]
+        over = Attack()
+        threads = [threading.Thread(target=keep_up, args=(server, over, act, buffer, sources[place % len(sources)]), daemon=True)
+                   for place in range(PLACES)]
         for thread in threads:
             thread.start()
-        time.sleep(2)
+        if reads:
+            over.await_begun(PLACES)
+        time.sleep(before)
         right = others_answered(server, seconds)
         over.set()
         return right

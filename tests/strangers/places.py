@@ -76,9 +76,12 @@ class Server:
                 self.said.seek(0)
                 raise RuntimeError(f"ended: {self.said.read()!r}")
             try:
-                socket.create_connection(("127.0.0.1", self.port), 10).close()
+                # It is ended once viewers are served: until the images are open it waits.
+                with socket.create_connection(("127.0.0.1", self.port), 60) as link:
+                    link.shutdown(socket.SHUT_WR)
+                    link.recv(1)
                 return
-            except ConnectionRefusedError:
+            except (ConnectionRefusedError, ConnectionResetError):
                 time.sleep(0.01)
         raise RuntimeError("doesn't listen")
 

@@ -1,6 +1,7 @@
-"""Nodes that are restarted one after another, each with a new file under an old name, while viewers ask all of them."""
+"""Nodes that are restarted or reloaded one after another, each with a new file under an old name, while viewers ask all of them."""
 import os
 import random
+import subprocess
 import threading
 import time
 
@@ -58,11 +59,30 @@ class Ring:
     def file(self, value):
         return f"{self.room}/version-{value}.tif"
 
+    def list_file(self, name, value):
+        """Writes a node's list of images, whole at once, with the file of these samples, and returns its path."""
+        path = f"{self.room}/list-of-{name}"
+        with open(path + ".new", "w", encoding="utf-8") as file:
+            file.write(f"p={self.file(value)}\n")
+        os.replace(path + ".new", path)
+        return path
+
     def start(self, name, value):
         """Starts a node over the file with these samples, whose times all copies have."""
         words = ["--name", name, "--peer-listen", f"127.0.0.1:{self.peers[name]}", "--stats-listen", f"127.0.0.1:{self.stats[name]}"]
         words += [word for other in NAMES if other != name for word in ("--peer", f"{other}=127.0.0.1:{self.peers[other]}")]
-        self.nodes[name] = Server(self.program, [f"p={self.file(value)}"], [*words, "--log", *self.options], self.ports[name])
+        words += ["--control", f"{self.room}/{name}.socket", "--images", self.list_file(name, value), "--log", *self.options]
+        self.nodes[name] = Server(self.program, [], words, self.ports[name])
+
+    def restart(self, name, value):
+        """Kills a node, and starts it over the file with these samples."""
+        self.stop(name)
+        self.start(name, value)
+
+    def reload(self, name, value):
+        """Has a node serve the file with these samples from now on."""
+        self.list_file(name, value)
+        subprocess.run([self.program, "--tell", f"{self.room}/{name}.socket", "reload"], check=True, capture_output=True, timeout=60)
 
     def stop(self, name):
         self.nodes.pop(name).stop()
@@ -95,9 +115,9 @@ def view(ring, seed, over, seen):
             seen.append(found)
 
 
-def restarted(program, room, options):
-    """How many images came meanwhile, how many of them had samples of both files, how many afterwards weren't of the new one alone, and how
-    often nodes told of another version."""
+def renewed(program, room, options, renew):
+    """How many images came while the nodes were renewed so, one after another; how many of them had samples of both files, how many
+    afterwards weren't of the new one alone, and how often nodes told of another version."""
     with Ring(program, room, options) as ring:
         over, seen = threading.Event(), []
         threads = [threading.Thread(target=view, args=(ring, seed, over, seen)) for seed in range(6)]
@@ -106,8 +126,7 @@ def restarted(program, room, options):
         told = 0
         for name in NAMES:
             time.sleep(2)
-            ring.stop(name)
-            ring.start(name, NEW)
+            renew(ring, name, NEW)
             time.sleep(2)
             told = max(told, *(other_versions(ring.stats[it]) for it in NAMES))
         over.set()

@@ -75,9 +75,9 @@ def gone(end, stay=0.0):
     return attack
 
 
-def of_others(act, seconds=100, buffer=None, options=()):
+def of_others(act, seconds=100, buffer=None, options=(), **crowd):
     def attack(program, room):
-        right = crowds.crowd(program, room, act, seconds, buffer, options)
+        right = crowds.crowd(program, room, act, seconds, buffer, options, **crowd)
         return f"{right} of {seconds} others answered", "90", right * 100 >= 90 * seconds
     return attack
 
@@ -144,9 +144,12 @@ def no_node(program, room):
     return f"{'closed' if closed else 'let in'}, {refused} counted", "closed, 1 counted", closed and refused == 1
 
 
-def restarted(program, room):
-    came, mixed, old, told = rolling.restarted(program, room, ["--peer-versions"])
-    return f"{came} images, {mixed} mixed, {old} not new at the end, {told} told", "0, 0, 1 or more told", came > 0 and mixed == 0 and old == 0 and told > 0
+def renewed(renew):
+    def attack(program, room):
+        came, mixed, old, told = rolling.renewed(program, room, ["--peer-versions"], renew)
+        is_met = came > 0 and mixed == 0 and old == 0 and told > 0
+        return f"{came} images, {mixed} mixed, {old} not new at the end, {told} told", "0, 0, 1 or more told", is_met
+    return attack
 
 
 ATTACKS = {
@@ -164,13 +167,20 @@ ATTACKS = {
     "a FIFO as an image": fifo,
     "names with escapes": escapes,
     "one who is no node": no_node,
-    "nodes restarted one after another with a new file": restarted,
+    "nodes restarted one after another with a new file": renewed(rolling.Ring.restart),
+    "nodes reloaded one after another with a new file": renewed(rolling.Ring.reload),
     "64 idle connections at the listeners of statistics and nodes": held_elsewhere,
 }
 
-# These take a hundred seconds and little else, so they run side by side.
+# A rate is known after each ten seconds of waiting. The first ones may count what the system's buffers took, 3 MB of each answer.
+SETTLED = {"buffer": 4096, "reads": True, "before": 45}
+
+# These take some hundred seconds and little else, so they run side by side.
 LONG = {
     "64 slow readers": of_others(crowds.read_slowly, buffer=2048, options=["--per-address", 32]),
+    "64 readers of 6 kB a second, from where others come": of_others(crowds.read_below_the_limit, sources=["127.0.0.1"], **SETTLED),
+    "64 readers of 6 kB a second, from 16 addresses": of_others(
+        crowds.read_below_the_limit, sources=[f"127.0.1.{place}" for place in range(1, 17)], **SETTLED),
     "64 idle connections": of_others(crowds.stay_idle),
     "a HEAD each 4.5 s on 64 connections": of_others(crowds.ask_now_and_then),
     "a head in drips": drips,
