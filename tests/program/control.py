@@ -122,21 +122,28 @@ def is_shut(port):
         return True
 
 
+def begun_link(port):
+    """A connection that takes little at a time, and the first byte of the large image that it asked for."""
+    link = slow_link(port)
+    link.settimeout(120)
+    return link, exactly(link, 1)
+
+
 @shows("--drain-seconds", 6)
 def a_call_that_takes_longer_than_drain_seconds_is_cut(program, room):
     # A client that takes nothing for a while: within ten minutes it gets its image whole, within a second it doesn't.
     picture(f"{room}/large_for_limits.tif", 4000, 4000)
     got = []
     for seconds in (1, 600):
-        words = ["--drain-seconds", seconds]
+        words = ["--drain-seconds", seconds, "--min-rate", 0]
         with controlled(program, room, f"limit{seconds}", [f"a={room}/large_for_limits.tif"], words) as (server, path):
-            link, said = slow_link(server.port), []
-            time.sleep(0.5)
+            link, first = begun_link(server.port)
+            said = []
             teller = threading.Thread(target=lambda: said.append(told(program, path, "drain")))
             teller.start()
-            time.sleep(4)
-            link.setblocking(True)
-            body = len(to_the_end(link)[0].partition(b"\r\n\r\n")[2])
+            # The end of the one drain; a while, in which the other one's limit isn't over.
+            teller.join(120 if seconds == 1 else 4)
+            body = len((first + to_the_end(link)[0]).partition(b"\r\n\r\n")[2])
             link.close()
             teller.join()
             got.append((said, server.process.wait(60), body > 4000 * 4000))
@@ -147,14 +154,13 @@ def a_call_that_takes_longer_than_drain_seconds_is_cut(program, room):
 @shows("--tell", 8)
 def a_stop_is_heard_in_a_drain(program, room):
     picture(f"{room}/large_for_stops.tif", 4000, 4000)
-    with controlled(program, room, "stop", [f"a={room}/large_for_stops.tif"], ["--drain-seconds", 600]) as (server, path):
-        link, said = slow_link(server.port), []
-        time.sleep(0.5)
-        begun = time.monotonic()
+    with controlled(program, room, "stop", [f"a={room}/large_for_stops.tif"], ["--drain-seconds", 600, "--min-rate", 0]) as (server, path):
+        link, _ = begun_link(server.port)
+        begun, said = time.monotonic(), []
         tellers = [threading.Thread(target=lambda word=word: said.append((word, *told(program, path, word)))) for word in ("drain", "stop")]
         for teller in tellers:
             teller.start()
-            time.sleep(0.5)
+            wait_until(lambda: told(program, path, "status")[1].startswith("drains: ") or len(said) > 0)
         for teller in tellers:
             teller.join()
         took, ended = time.monotonic() - begun, server.process.wait(60)
@@ -200,11 +206,9 @@ def a_viewer_that_reads_over_a_reload_gets_the_image_of_before(program, room):
     for side in sides:
         picture(f"{room}/large_of_{side}.tif", side, side)
     write_list(path, f"a={room}/large_of_{sides[0]}.tif\n")
-    with controlled(program, room, "over", [], ["--images", path]) as (server, control):
+    with controlled(program, room, "over", [], ["--images", path, "--min-rate", 0]) as (server, control):
         for side in (*sides[1:], sides[0]):
-            links.append(slow_link(server.port))
-            links[-1].setblocking(True)
-            exactly(links[-1], 1)
+            links.append(begun_link(server.port)[0])
             write_list(path, f"a={room}/large_of_{side}.tif\n")
             got.append(told(program, control, "reload"))
         got.append(Load.answer(links[0], b"H")[1][174:] == bytes(sides[0] ** 2))
@@ -213,7 +217,7 @@ def a_viewer_that_reads_over_a_reload_gets_the_image_of_before(program, room):
         got.append(sides[2] ** 2 < length < sides[0] ** 2)
         for link in links:
             link.close()
-        wait_until(lambda: told(program, control, "status")[1].endswith(" at work 1\n"), 60)
+        wait_until(lambda: told(program, control, "status")[1].endswith(" at work 1\n"))
         got.append(told(program, control, "reload"))
     started = [(0, f"generation {number}, images 1\n") for number in (2, 3, 4)]
     want = [*started[:2], (1, "run: earlier generations are still at work\n"), True, True, started[2]]
@@ -304,6 +308,13 @@ class Load(threading.Thread):
         return self.calls, self.wrong, self.failed
 
 
+def reloaded(program, control):
+    """The status of a reload, once no more than two earlier generations are at work: they end as their calls do."""
+    found = []
+    wait_until(lambda: found.append(told(program, control, "reload")) or found[-1][1] != "run: earlier generations are still at work\n")
+    return found[-1][0]
+
+
 @shows("--tell", 12)
 def nodes_under_load_are_reloaded_drained_and_stopped(program, room):
     # Three nodes of a ring: one is told twenty times to serve a list that grows and shrinks, one is drained, one is killed. A call fails
@@ -327,9 +338,9 @@ def nodes_under_load_are_reloaded_drained_and_stopped(program, room):
         reloads = []
         for turn in range(20):
             write_list(lists[0], "a=:sample\n" + images_of(room, [7, 8] if turn % 2 else [7]))
-            reloads.append(told(program, servers[0][1], "reload")[0])
+            reloads.append(reloaded(program, servers[0][1]))
             if turn == 7:
-                drained = told(program, servers[1][1], "drain"), servers[1][0].process.wait(20)
+                drained = told(program, servers[1][1], "drain"), servers[1][0].process.wait(60)
             if turn == 14:
                 servers[2][0].process.kill()
         ended = [[load.end() for load in some] for some in loads]
