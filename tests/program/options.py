@@ -7,6 +7,7 @@ import re
 import resource
 import signal
 import socket
+import struct
 import subprocess
 import sys
 import time
@@ -50,7 +51,7 @@ def shows(option, seconds=1):
     return note
 
 
-def asked(port, target, timeout=20):
+def asked(port, target, timeout=60):
     """The status and the body of an answer, as far as it came."""
     with connected(port, timeout) as link:
         try:
@@ -64,9 +65,10 @@ def asked(port, target, timeout=20):
 def page(port, target):
     """The status and the text that the listener of statistics answers. It may listen later than that of viewers, and refuses a second
     connection by --per-address, too."""
-    for _ in range(200):
+    ends = time.monotonic() + 60
+    while time.monotonic() < ends:
         try:
-            with urllib.request.urlopen(f"http://127.0.0.1:{port}{target}", timeout=10) as answer:
+            with urllib.request.urlopen(f"http://127.0.0.1:{port}{target}", timeout=60) as answer:
                 return answer.status, answer.read().decode()
         except urllib.error.HTTPError as answer:
             return answer.code, answer.read().decode()
@@ -120,7 +122,7 @@ def listen_serves_until_it_is_stopped(program, room):
     with Server(program, words) as server:
         got = [asked(server.port, SAMPLE_TARGET), server.alive()]
         server.process.send_signal(signal.SIGTERM)
-        got.append(server.process.wait(10))
+        got.append(server.process.wait(60))
     return got, [(200, sample_file()), True, -signal.SIGTERM], command(program, *words)
 
 
@@ -236,20 +238,32 @@ def the_first_band_is_sent_before_the_last_is_read(program, room):
     return got, [True, "whole"], command(program, *words, "a=" + path)
 
 
-def threads_of(program, room, workers, wanted=0, seconds=1.5, most_seconds=30):
-    """The most threads of a server while one image after another is made for one viewer, until so many were seen, and for a while."""
-    with Server(program, [f"a={room}/large_for_threads.tif"], ["--edge", 64, "--cache-bytes", 0, "--workers", workers]) as server:
-        folder, most, begun = f"/proc/{server.process.pid}/task", 0, time.monotonic()
-        with connected(server.port, 60) as link:
-            while time.monotonic() < begun + (seconds if most >= wanted else most_seconds):
+def threads_of(program, room, workers, wanted):
+    """The most threads at once that began while images were made for one viewer, who had one of them whole and so many were seen, or until
+    it took too long."""
+    notes = f"{room}/threads_of_{workers}"
+    with open(notes, "wb") as file:
+        file.write(struct.pack("3i", 0, 0, 0))
+    counted = {**os.environ, "LD_PRELOAD": f"{room}/threads.so", "THREADS_TO": notes}
+    words = ["--edge", 64, "--cache-bytes", 0, "--workers", workers]
+    with Server(program, [f"a={room}/large_for_threads.tif"], words, counted) as server, connected(server.port, 120) as link:
+        link.sendall(b"HEAD /iiif/a/full/2048,/0/default.tif HTTP/1.1\r\nHost: localhost\r\n\r\n")
+        head = link.recv(65536)
+        length = len(head) + int(re.search(rb"Content-Length: (\d+)", head)[1])
+        # Not those that began before: of this connection, and of the one by which the server was found.
+        with open(notes, "r+b", 0) as file:
+            file.write(struct.pack("i", 1))
+            file.write(struct.pack("2i", 0, 0))
+            most, ends = 0, time.monotonic() + 60
+            for image in range(100):
+                if image > 0 and (most >= wanted or time.monotonic() > ends):
+                    break
                 link.sendall(b"GET /iiif/a/full/2048,/0/default.tif HTTP/1.1\r\nHost: localhost\r\n\r\n")
-                left = 4096 * 1024
-                while left > 0:
-                    part = link.recv(16384)
-                    if not part:
-                        return most
-                    left, most = left - len(part), max(most, len(os.listdir(folder)))
-        return most
+                if len(exactly(link, length)) != length:
+                    raise EOFError("an image didn't come whole")
+                file.seek(8)
+                most = struct.unpack("i", file.read(4))[0]
+    return most
 
 
 @shows("--workers", 3)
@@ -257,10 +271,9 @@ def one_image_is_made_by_as_many_threads_as_workers_says(program, room):
     # One worker is the connection's own thread; each further one has a thread of its own. A band of the image has 32 blocks. A thread that
     # gave its worker back may not have ended when the next one begins.
     picture(f"{room}/large_for_threads.tif", 4096, 4096, edge=64)
-    alone = threads_of(program, room, 1)
-    more = [threads_of(program, room, workers, alone + workers - 1) - alone for workers in (2, 5)]
-    got = [workers - 1 <= it <= 2 * (workers - 1) or it for workers, it in zip((2, 5), more)]
-    return got, [True, True], command(program, "--edge", 64, "--cache-bytes", 0, "--workers", 5, "a=large.tif")
+    got = [threads_of(program, room, workers, workers - 1) for workers in (1, 2, 5)]
+    got = [workers - 1 <= it <= 2 * (workers - 1) or it for workers, it in zip((1, 2, 5), got)]
+    return got, [True, True, True], command(program, "--edge", 64, "--cache-bytes", 0, "--workers", 5, "a=large.tif")
 
 
 @shows("--open-files", 2)
@@ -305,8 +318,9 @@ def touched_memory_was_resident_before_it_listens(program, room):
 
 @shows("--peer-timeout", 4)
 def a_silent_node_is_waited_for_as_long_as_peer_timeout_says(program, room):
+    # A slow machine may take its time even where the node is waited for 20 ms: one of some servers doesn't.
     took, bodies = [], set()
-    for timeout in (20, 2500):
+    for timeout in (2500, 20, 20, 20, 20, 20):
         with socket.socket() as silent:
             silent.bind(("127.0.0.1", 0))
             silent.listen()
@@ -315,13 +329,16 @@ def a_silent_node_is_waited_for_as_long_as_peer_timeout_says(program, room):
                 begun = time.monotonic()
                 bodies.add(asked(server.port, LAST_TILE))
                 took.append(time.monotonic() - begun)
-    got = (bodies == {(200, sample_file(LAST_TILE))}, took[0] < 1.5 or took[0], took[1] >= 2 or took[1])
+        if timeout == 20 and took[-1] < 1.5:
+            break
+    got = (bodies == {(200, sample_file(LAST_TILE))}, took[-1] < 1.5 or took[1:], took[0] >= 2 or took[0])
     return got, (True, True, True), command(program, *words[:-1], "other85=127.0.0.1:9090", "a=:sample")
 
 
 @shows("--min-rate", 45)
 def a_reader_below_min_rate_is_cut_after_30_seconds(program, room):
     # Three read 20,000 bytes a second: below 1,000,000 one is cut once it was waited for 30 s; it isn't at the default of 4,096, nor at 0.
+    # On a slow machine the looks are rarer, and more is read at each.
     picture(f"{room}/large_for_readers.tif", 4000, 4000)
     settings = {"above": ["--min-rate", 1_000_000], "default": [], "none": ["--min-rate", 0]}
     servers, cut_after = {}, {}
@@ -332,9 +349,10 @@ def a_reader_below_min_rate_is_cut_after_30_seconds(program, room):
     try:
         links = {name: slow_link(server.port) for name, (server, _) in servers.items()}
         begun, ends = time.monotonic(), time.monotonic() + 90
+        taken = dict.fromkeys(links, 0)
         while time.monotonic() < ends:
             for name, link in links.items():
-                take(link, 2000)
+                taken[name] += take(link, max(2000, int(20_000 * (time.monotonic() - begun)) - taken[name]))
                 if name not in cut_after and cut(page(servers[name][1], "/metrics")[1]) == {"rate": 1}:
                     # What isn't cut soon behind the first isn't cut for its rate.
                     cut_after[name], ends = time.monotonic() - begun, min(ends, time.monotonic() + 8)
@@ -360,11 +378,14 @@ def slow_link(port):
 
 
 def take(link, count):
-    """Reads at most so many bytes of what came."""
+    """Reads at most so many bytes of what came, and counts them."""
+    taken = 0
     try:
-        link.recv(count)
+        while taken < count and (part := link.recv(count - taken)):
+            taken += len(part)
     except (BlockingIOError, ConnectionResetError):
         pass
+    return taken
 
 
 @shows("--per-address", 2)
@@ -387,7 +408,7 @@ def the_second_connection_of_an_address_is_refused_by_per_address(program, room)
     return got, [((None, b""), True), ((200, sample_file()), True)], command(program, "--per-address", 1, "a=:sample")
 
 
-def wait_until(is_so, seconds=10):
+def wait_until(is_so, seconds=60):
     """Waits until something is so; gives up after some seconds, so that what is judged next says what is."""
     ends = time.monotonic() + seconds
     while not is_so() and time.monotonic() < ends:
@@ -403,7 +424,7 @@ def log_writes_a_line_for_each_answer(program, room):
     for words in (["--log"], []):
         with Server(program, ["a=:sample"], words) as server:
             asked(server.port, SAMPLE_TARGET)
-            wait_until(lambda: server.line(), 10 if words else 1)
+            wait_until(lambda: server.line(), 60 if words else 1)
             server.said.seek(0)
             text = server.said.read().decode()
             got.append(bool(re.fullmatch(line, text)) or text)
@@ -505,9 +526,10 @@ def is_listening(port):
 def replied(port, source=None, name="a", length=None):
     """Asks for the tile (0, 0) of edge 2 from an address of this machine: the reply, nothing where the connection is closed."""
     ask = wire.ask(1, 1, wire.tile_key(name.encode(), 2, 0, 0))
-    for _ in range(200):
+    ends = time.monotonic() + 60
+    while time.monotonic() < ends:
         try:
-            with socket.create_connection(("127.0.0.1", port), 10, (source, 0) if source else None) as link:
+            with socket.create_connection(("127.0.0.1", port), 60, (source, 0) if source else None) as link:
                 link.sendall(ask)
                 return exactly(link, length or len(reply()))
         except ConnectionRefusedError:
@@ -590,7 +612,7 @@ def a_server_warns_of_a_name_of_two_dots_alone_and_answers_it(program, room):
     got = []
     for name, wanted in (("..", warning), ("a", "")):
         with Server(program, [f"{name}=:sample"]) as server:
-            wait_until(lambda: server.line(), 10 if wanted else 1)
+            wait_until(lambda: server.line(), 60 if wanted else 1)
             got.append((server.line(), asked(server.port, f"/iiif/{name}/full/max/0/default.tif")))
     answer = (200, sample_file())
     return got, [(warning, answer), ("", answer)], command(program, "..=:sample")

@@ -5,7 +5,8 @@
     tests/program/program.py --program PROGRAM NAME ..    # the cases whose names have one of these in them
     tests/program/program.py --list
 
-Needs `cc`, which builds pieces.c: where standard output has little room, it takes five bytes a write; and reads.c, which counts reads.
+Needs `cc`, which builds pieces.c: where standard output has little room, it takes five bytes a write; reads.c, which counts reads; and
+threads.c, which counts threads.
 
 Tables of cases stand in cases/, in the words of tables.py; options.py has those of servers that listen, on 127.0.0.1 alone, control.py
 those of servers that are told something meanwhile, and keeping.py those of what is kept for one answer. Each case runs in a room that holds
@@ -53,7 +54,7 @@ def made_room():
     shutil.copytree(f"{HERE}/data", room, dirs_exist_ok=True)
     with open(f"{room}/sample.tif", "rb") as file:
         sample = file.read()
-    for name in ("pieces", "reads"):
+    for name in ("pieces", "reads", "threads"):
         subprocess.run(["cc", "-O2", "-shared", "-fPIC", "-o", f"{room}/{name}.so", f"{HERE}/{name}.c", "-ldl"], check=True)
     os.symlink("sample.tif", f"{room}/linked.tif")
     os.mkdir(f"{room}/numbered")
