@@ -142,7 +142,8 @@ def while_served(room, places):
     words = ["--base", "http://localhost/iiif", "--hold", "1000000", "--cache-bytes", "0", "--manifest", "manifest"]
     server = subprocess.Popen([room.program, *words, "--listen", f"127.0.0.1:{port}", "a=served.tif"], cwd=room.folder, stderr=subprocess.DEVNULL)
     try:
-        for _ in range(100):
+        ends = time.monotonic() + 60
+        while time.monotonic() < ends:
             try:
                 asked(port)
                 break

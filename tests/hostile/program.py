@@ -60,7 +60,8 @@ class Server:
         # The program writes two lines at most; a file holds them, so that nothing waits for a reader.
         self.said = tempfile.TemporaryFile()
         self.process = subprocess.Popen(words, stdin=subprocess.DEVNULL, stdout=self.said, stderr=self.said, env=env)
-        for _ in range(4000):
+        ends = time.monotonic() + 120
+        while time.monotonic() < ends:
             if self.process.poll() is not None:
                 raise Refused(self.process.returncode, self.line())
             if self.serves():
@@ -106,7 +107,7 @@ class Server:
     def files(self):
         return len(os.listdir(f"/proc/{self.process.pid}/fd"))
 
-    def files_left(self, before, seconds=5):
+    def files_left(self, before, seconds=30):
         """How many open files there are more than before, once connections that end have had some seconds to go."""
         deadline = time.monotonic() + seconds
         while self.files() > before and time.monotonic() < deadline:
@@ -171,7 +172,7 @@ def started(make, tries=5):
                 raise
 
 
-def wait_for(port, seconds=20):
+def wait_for(port, seconds=60):
     """Waits until a further listener of a program is there, and until the connection by which it was found has ended."""
     ends = time.monotonic() + seconds
     while True:

@@ -71,7 +71,8 @@ class Server:
         self.said = tempfile.TemporaryFile()
         words = [program, "--base", BASE, "--listen", f"127.0.0.1:{self.port}", *map(str, options), *images]
         self.process = subprocess.Popen(words, stdin=subprocess.DEVNULL, stdout=self.said, stderr=self.said)
-        for _ in range(4000):
+        ends = time.monotonic() + 120
+        while time.monotonic() < ends:
             if self.process.poll() is not None:
                 self.said.seek(0)
                 raise RuntimeError(f"ended: {self.said.read()!r}")
