@@ -2,13 +2,15 @@
 """Nodes that are simulated record runs, and iiif-judge judges them, by iiif_replay or by the Python evaluation of the machine: tries the
 judge, and no node.
 
-    tests/record/simulated.py                # runs of one to three nodes by chance, each accepted; and with a wrong rule each, refused
-    tests/record/simulated.py --count 100    # so many of each
+    tests/record/simulated.py                # runs of one to three nodes by chance, each accepted; and with a wrong rule, until one is refused
+    tests/record/simulated.py --count 100    # so many of each at most
+    tests/record/simulated.py --all          # with a wrong rule as many as without
     tests/record/simulated.py --replay FILE  # by this iiif_replay
 
-A node's workers are coroutines that go on in turn by chance. The status is 0 where each is as it should be, else 1.
+A node's workers are coroutines that go on in turn by chance. Runs are judged side by side, one for each processor. The status is 0 where each is as it should be, else 1.
 """
 import argparse
+import concurrent.futures
 import os
 import random
 import subprocess
@@ -198,30 +200,43 @@ def judged(seed, program, wrong=None):
         return done.returncode, done.stdout.decode().strip().split("\n")
 
 
+def of_wrong(wrong, seeds, program, is_all):
+    """The runs with a wrong rule that were judged, at most until one was refused or, where all are, of each seed: how many there were, the
+    last words of those that were refused, and what was said where the judge failed."""
+    refused, failed, tried = [], [], 0
+    for seed in seeds:
+        status, said = judged(seed, program, wrong)
+        tried += 1
+        if status == 1:
+            refused.append(said[-1])
+        elif status != 0:
+            failed.append("%s, seed %d: %s" % (wrong, seed, "; ".join(said)))
+        if refused and not is_all:
+            break
+    return tried, refused, failed
+
+
 def main():
     parser = argparse.ArgumentParser(description="Judges records of simulated nodes.")
     parser.add_argument("--count", type=int, default=12)
     parser.add_argument("--seed", type=int, default=0)
+    parser.add_argument("--all", action="store_true", help="judge as many runs with a wrong rule")
     parser.add_argument("--replay", metavar="FILE", help="iiif_replay; where it is left out, the evaluation in Python")
     arguments = parser.parse_args()
     program = os.path.abspath(arguments.replay) if arguments.replay else None
-    failed = 0
-    for seed in range(arguments.seed, arguments.seed + arguments.count):
-        status, said = judged(seed, program)
-        if status != 0:
-            failed += 1
-            print("seed %d: %s" % (seed, "; ".join(said)), flush=True)
-    for wrong in WRONG:
-        refused = []
-        for seed in range(arguments.seed, arguments.seed + arguments.count):
-            status, said = judged(seed, program, wrong)
-            if status == 1:
-                refused.append(said[-1])
-            elif status != 0:
+    seeds, failed = range(arguments.seed, arguments.seed + arguments.count), 0
+    with concurrent.futures.ProcessPoolExecutor(os.cpu_count()) as pool:
+        right = [(seed, pool.submit(judged, seed, program)) for seed in seeds]
+        wrong = [(it, pool.submit(of_wrong, it, seeds, program, arguments.all)) for it in WRONG]
+        for seed, found in right:
+            status, said = found.result()
+            if status != 0:
                 failed += 1
-                print("%s, seed %d: %s" % (wrong, seed, "; ".join(said)), flush=True)
-        print("%s: %d of %d refused%s" % (wrong, len(refused), arguments.count, "; " + refused[0] if refused else ""), flush=True)
-        failed += not refused
+                print("seed %d: %s" % (seed, "; ".join(said)), flush=True)
+        for name, found in wrong:
+            tried, refused, faults = found.result()
+            print("\n".join([*faults, "%s: %d of %d refused%s" % (name, len(refused), tried, "; " + refused[0] if refused else "")]), flush=True)
+            failed += len(faults) + (not refused)
     print("%d failed" % failed)
     return int(failed > 0)
 
