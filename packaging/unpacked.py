@@ -14,7 +14,8 @@ import urllib.error
 import urllib.request
 
 PORT = 18080
-WANTED = ("usr/bin/iiif_serve", "usr/share/man/man1/iiif_serve.1.gz", "usr/share/iiif-serve/viewers/leaflet.html",
+WANTED = ("usr/bin/iiif_serve", "usr/bin/iiif_replay", "usr/bin/iiif-judge", "usr/share/iiif-serve/judge/machine.py",
+          "usr/share/man/man1/iiif_serve.1.gz", "usr/share/iiif-serve/viewers/leaflet.html",
           "usr/share/iiif-serve/manifest.py",
           "usr/share/doc/iiif-serve/OPERATING.md.gz", "usr/share/doc/iiif-serve/examples/nginx.conf", "etc/default/iiif-serve")
 
@@ -38,7 +39,7 @@ def command(root, name="ExecStart"):
 
 def answer(target):
     """The bytes of an answer of status 200, asked again while nobody listens yet. It comes once the images are open."""
-    for _ in range(100):
+    for _ in range(600):
         try:
             with urllib.request.urlopen(f"http://127.0.0.1:{PORT}/iiif/sample/{target}", timeout=100) as it:
                 return it.read()
@@ -59,7 +60,7 @@ def main(package):
                 raise SystemExit("check: another answer than the sample's")
             for name in ("ExecReload", "ExecStop"):
                 subprocess.run(command(root, name), check=True, timeout=60)
-            if server.wait(20) != 0:
+            if server.wait(60) != 0:
                 raise SystemExit(f"check: it was drained, and ended with {server.returncode}")
         finally:
             server.terminate()
