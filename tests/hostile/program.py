@@ -37,7 +37,7 @@ def options_of(program):
 
 def counters(port):
     """The counters and gauges without labels that a program tells at this port, by name (Prometheus' text format, version 0.0.4)."""
-    with urllib.request.urlopen(f"http://127.0.0.1:{port}/metrics", timeout=10) as answer:
+    with urllib.request.urlopen(f"http://127.0.0.1:{port}/metrics", timeout=60) as answer:
         rows = [line.split() for line in answer.read().decode().splitlines() if line and line[0] != "#"]
     return {row[0]: int(float(row[1])) for row in rows if "{" not in row[0]}
 
@@ -87,7 +87,7 @@ class Server:
         self.said.seek(0)
         return self.said.read().decode(errors="replace").strip()
 
-    def connect(self, timeout=30):
+    def connect(self, timeout=60):
         return connected(self.port, timeout)
 
     def alive(self):
@@ -156,7 +156,7 @@ def to_the_end(link):
         got += part
 
 
-def connected(port, timeout=30):
+def connected(port, timeout=60):
     link = socket.create_connection(("127.0.0.1", port), timeout)
     link.setsockopt(socket.IPPROTO_TCP, socket.TCP_NODELAY, 1)
     return link
@@ -184,12 +184,12 @@ def wait_for(port, seconds=60):
             time.sleep(0.005)
 
 
-def exchanged(server, pieces, timeout=20):
+def exchanged(server, pieces, timeout=60):
     """What a connection of a viewer is answered that sends these pieces and then ends its own side."""
     return sent_to(server.port, pieces, timeout)
 
 
-def sent_to(port, pieces, timeout=20):
+def sent_to(port, pieces, timeout=60):
     """What a connection to this port is answered that sends these pieces and then ends its own side."""
     with connected(port, timeout) as link:
         try:
