@@ -98,8 +98,17 @@ class Ring:
 
 
 def page(port, target):
-    told = b""
-    with connected(port) as link:
+    """What is told at a listener of statistics, which may listen later than that of viewers."""
+    told, ends = b"", time.monotonic() + 60
+    while True:
+        try:
+            link = connected(port, 60)
+            break
+        except ConnectionRefusedError:
+            if time.monotonic() > ends:
+                raise
+            time.sleep(0.05)
+    with link:
         link.sendall(get(target))
         while part := link.recv(65536):
             told += part
@@ -129,6 +138,11 @@ def renewed(program, room, options, renew):
             renew(ring, name, NEW)
             time.sleep(2)
             told = max(told, *(other_versions(ring.stats[it]) for it in NAMES))
+            # A slow machine asks another node less often while their versions differ.
+            ends = time.monotonic() + 60
+            while name == NAMES[0] and told == 0 and time.monotonic() < ends:
+                time.sleep(0.5)
+                told = max(other_versions(ring.stats[it]) for it in NAMES)
         over.set()
         for thread in threads:
             thread.join()
