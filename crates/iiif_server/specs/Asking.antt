@@ -1,5 +1,6 @@
 -- What is asked of an image, and what it comes to: words of private functions.
-use Rattle.std.specs.Prelude.{◌≡◌, Bool, List, Option, Result, Some, IsTrue, ℕ}
+use Rattle.std.specs.Prelude.{◌≡◌, Bool, List, Result, Some, IsTrue}
+use Rattle.iiif_io.specs.Devices.{Writes}
 use Rattle.iiif_source.specs.declared.Source as source
 use Rattle.iiif_pixel.specs.Picture.{Picture}
 use Rattle.iiif_tiff_write.specs.OutKind.{out_kind_of}
@@ -44,11 +45,9 @@ abbrev pub PlansHead : {R S : Type 0} {d : _} → Service S → Asked R S d → 
 PlansHead node asked planned = IsHeadFor node.settings asked.part asked.entry.now.name asked.accepted.now planned.head.now
 
 -- For what is asked of an image, which has a picture of the kind that was accepted, a text was sent that is allowed with this result.
-abbrev pub SendsFor : {S R W : Type 0} {d : _} → source.Ghosts S R → Bool → Service S → Asked R S d → (W → Option (List ℕ)) →
-    (W → W → Type 0) → W → W → Result Sent cut.Cut → Type 0
-SendsFor sources honest node asked contents fails old new result =
+abbrev pub SendsFor : {S R W : Type 0} {d : _} → source.Ghosts S R → Bool → Service S → Asked R S d → Writes W → Result Sent cut.Cut → Type 0
+SendsFor sources honest node asked w result =
     (q : Request) (p : Picture) → IsPictureOf sources.bytes sources.keeps (item_of asked.entry.now) p
     → asked.accepted.now.kind ≡ out_kind_of (kind_of p) (depth_of p) q.quality
     → SendsAllowed node.settings asked.part sources.gave
-    (ReachesImageOf (sources.keeps asked.entry.now.source × IsTrue honest) (item_of asked.entry.now) q asked.accepted.now p)
-    contents fails old new result
+    (ReachesImageOf (sources.keeps asked.entry.now.source × IsTrue honest) (item_of asked.entry.now) q asked.accepted.now p) w result

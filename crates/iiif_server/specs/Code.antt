@@ -1,6 +1,7 @@
 -- Words of private functions.
 use Rattle.std.specs.Prelude.{◌≡◌, ℕ, ◌⊎◌, ◌++◌, ◌==◌, ◌||◌, Bool, true, false, not, List, Option, Result, Some, Ok, Err, IfSome}
-use Rattle.std.specs.Io.KnownBytes.{Appends}
+use Rattle.iiif_io.specs.Devices.{Reads, Writes}
+use Rattle.iiif_io.specs.Sending.{Sends}
 use Rattle.httparse.specs.Grammar.{RequestHead}
 use Rattle.iiif_http_front.specs.Reading.{Reading, input_of}
 use Rattle.iiif_http_front.specs.RequestHeads.{BeginsWithCall}
@@ -31,7 +32,7 @@ use Rattle.iiif_answers.specs.declared.answer.Sent.{Sent}
 use Rattle.iiif_answers.specs.declared.answer.Cut as cut
 use Rattle.iiif_answers.specs.declared.part.Part.{Part}
 use Rattle.iiif_answers.specs.Streams.{Terms, Stream, IsCame, IsClosing, call_limit, closes_after}
-use Rattle.iiif_server.specs.Answering.{terms_at}
+use Rattle.iiif_server.specs.Answering.{WriterFailed, terms_at}
 use Rattle.iiif_server.specs.Nodes.{Service}
 
 -- the answer to no call, or that to lack of memory, was sent before a connection closes
@@ -80,10 +81,9 @@ ReachesImageOf kept item q a p r = (image : Picture) × IsSentFor kept (resolved
     (r ≡ given (given_of item q a p image))
 
 -- a text was sent that is allowed with this result
-abbrev pub SendsAllowed : {S W : Type 0} → Settings → Part → (S → ReadFault → Bool) → (Reply S → Type 0) → (W → Option (List ℕ)) →
-    (W → W → Type 0) → W → W → Result Sent cut.Cut → Type 0
-SendsAllowed {S} {W} s part gave reaches contents fails old new result =
-    (text : List ℕ) × Appends (contents old) (contents new) text × Allowed s part gave reaches ((before : W) × fails before new) text result
+abbrev pub SendsAllowed : {S W : Type 0} → Settings → Part → (S → ReadFault → Bool) → (Reply S → Type 0) → Writes W →
+    Result Sent cut.Cut → Type 0
+SendsAllowed s part gave reaches w result = (text : List ℕ) × Sends w text × Allowed s part gave reaches (WriterFailed w) text result
 
 -- the head of the answer with an image of these sides, whatever its samples
 abbrev pub IsHeadFor : Settings → Part → List ℕ → Accepted → List ℕ → Type 0
@@ -102,15 +102,12 @@ pub record HasImages {S R J : Type 0} (names : system.Ghosts J) (sources : sourc
   pub stable : (name : List ℕ) (item : Item S) → item_named images name ≡ Some item → names.stable name → ∥ sources.keeps item.source ∥₁
 
 -- an answer to no call, or a first part of it, was sent before a connection closes
-abbrev pub Closes : {W : Type 0} → (W → Option (List ℕ)) → (W → W → Type 0) → W → W → Response → Type 0
-Closes {W} contents fails old new r =
-    (text : List ℕ) × Appends (contents old) (contents new) text × IsClosing ((before : W) × fails before new) r text
+abbrev pub Closes : {W : Type 0} → Writes W → Response → Type 0
+Closes w r = (text : List ℕ) × Sends w text × IsClosing (WriterFailed w) r text
 
 -- so was that to a head that is none, or that to lack of memory
-abbrev pub ClosesForHead : {W : Type 0} → (W → Option (List ℕ)) → (W → W → Type 0) → W → W → Type 0
-ClosesForHead {W} contents fails old new =
-    (text : List ℕ) × Appends (contents old) (contents new) text
-    × CloseFor ((before : W) × fails before new) (refusal_response refusal.Head) text
+abbrev pub ClosesForHead : {W : Type 0} → Writes W → Type 0
+ClosesForHead w = (text : List ℕ) × Sends w text × CloseFor (WriterFailed w) (refusal_response refusal.Head) text
 
 -- the n-th call of a connection, which closes it where it is the last that is answered
 pub record IsNthCall (call : Call) (n : ℕ) (nth : Call) : Type 0 where
@@ -119,20 +116,17 @@ pub record IsNthCall (call : Call) (n : ℕ) (nth : Call) : Type 0 where
   pub close : nth.close ≡ (call.close || n == call_limit)
 
 -- a text was sent by which a call is answered, and another may follow or none
-abbrev pub EndsCall : {S R W : Type 0} → source.Ghosts S R → Bool → Service S → Call → (W → Option (List ℕ)) → (W → W → Type 0) → W → W →
-    Bool → Type 0
-EndsCall {S} {R} {W} sources honest node call contents fails old new more =
-    (text : List ℕ) × Appends (contents old) (contents new) text
-    × IsAnswered sources.bytes sources.keeps honest sources.gave node.settings node.items ((before : W) × fails before new)
+abbrev pub EndsCall : {S R W : Type 0} → source.Ghosts S R → Bool → Service S → Call → Writes W → Bool → Type 0
+EndsCall sources honest node call w more =
+    (text : List ℕ) × Sends w text
+    × IsAnswered sources.bytes sources.keeps honest sources.gave node.settings node.items (WriterFailed w)
     (method_text call.method) call.target.items call.close text more
 
 -- The next call of a connection was answered, which is its n-th, or what ended it: of the bytes that its reader has left, where they are
 -- known, and of those that came.
-pub record ServesNext {S R I W : Type 0} (sources : source.Ghosts S R) (honest : Bool) (node : Service S) (remaining : I → Option (List ℕ))
-    (reader_fails : I → I → Type 0) (contents : W → Option (List ℕ)) (writer_fails : W → W → Type 0) (n : ℕ) (before after : Reading I)
-    (old new : W) (more : Bool) : Type 0 where
-  pub serves : IfSome (input_of remaining before) (λ input. (text : List ℕ) × Appends (contents old) (contents new) text
-      × Served (terms_at sources honest node remaining reader_fails contents writer_fails new) n input (input_of remaining after) text more)
-  pub came : (came : List ℕ) × (text : List ℕ) × Appends (contents old) (contents new) text
-      × Served (terms_at sources honest node remaining reader_fails contents writer_fails new) n (before.unread ++ came) (Some after.unread)
-      text more
+pub record ServesNext {S R I W : Type 0} (sources : source.Ghosts S R) (honest : Bool) (node : Service S) (n : ℕ)
+    (r : Reads I (Reading I)) (w : Writes W) (more : Bool) : Type 0 where
+  pub serves : IfSome (input_of r.remaining r.old) (λ input. (text : List ℕ) × Sends w text
+      × Served (terms_at sources honest node r.fails w) n input (input_of r.remaining r.new) text more)
+  pub came : (came : List ℕ) × (text : List ℕ) × Sends w text
+      × Served (terms_at sources honest node r.fails w) n (r.old.unread ++ came) (Some r.new.unread) text more

@@ -1,6 +1,7 @@
 -- What a node replies to another node's ask.
-use Rattle.std.specs.Prelude.{ℕ, Bool, List, Option}
-use Rattle.std.specs.Io.KnownBytes.{Appends}
+use Rattle.std.specs.Prelude.{ℕ, Bool, List}
+use Rattle.iiif_io.specs.Devices.{Reads, Writes}
+use Rattle.iiif_io.specs.Sending.{Sends}
 use Rattle.iiif_source.specs.declared.ReadFault.{ReadFault}
 use Rattle.iiif_source.specs.declared.Source as source
 use Rattle.iiif_tile_group.specs.Named.{gave_of, pictures_of, stable_of}
@@ -26,9 +27,8 @@ RepliesToAsk bytes gave keeps honest node version group key status value =
 
 -- The asks of another node's connection are answered in their order. What came is the input, where that is known: so it is one relation
 -- for memory and for sockets.
-abbrev pub ServesPeer : {S R I W : Type 0} → source.Ghosts S R → Bool → Service S → (I → Option (List ℕ)) → (I → I → Type 0) →
-    (W → Option (List ℕ)) → (W → W → Type 0) → I → I → W → W → Type 0
-ServesPeer sources honest node remaining reader_fails contents writer_fails before after old new =
-    (came : List ℕ) × (output : List ℕ) × IsInput (remaining before) came × Appends (contents old) (contents new) output
-    × IsExchange (RepliesToAsk sources.bytes sources.gave sources.keeps honest node) (LeftAt reader_fails after) (LeftAt writer_fails new)
-    (IsInput (remaining after)) came output
+abbrev pub ServesPeer : {S R I W : Type 0} → source.Ghosts S R → Bool → Service S → Reads I I → Writes W → Type 0
+ServesPeer sources honest node r w =
+    (came : List ℕ) × (output : List ℕ) × IsInput (r.remaining r.old) came × Sends w output
+    × IsExchange (RepliesToAsk sources.bytes sources.gave sources.keeps honest node) (LeftAt r.fails r.new) (LeftAt w.fails w.new)
+    (IsInput (r.remaining r.new)) came output

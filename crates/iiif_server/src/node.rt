@@ -5,6 +5,7 @@ ghost use Rattle.iiif_answers.specs.Outcomes.{IsReady};
 ghost use Rattle.iiif_answers.specs.Responses.{is_loaded};
 ghost use Rattle.iiif_answers.specs.declared.part.Part.TheVariants.{Body};
 ghost use Rattle.iiif_delivery.specs.Delivery.{MaySend, Sends};
+ghost use Rattle.iiif_io.specs.Devices.{writes};
 ghost use Rattle.iiif_server.specs.Answering.{FramesCall, FramesPart, SendsForCall, SendsForTarget, SendsWhole};
 ghost use Rattle.iiif_server.specs.Answering.{SparesForCall, SparesForTarget, SparesUnlessImage};
 ghost use Rattle.iiif_server.specs.Asking.{IsFound, IsJobOn, PlansHead, PlansJob, SendsFor, WasAccepted, WasFound};
@@ -280,7 +281,7 @@ impl<
         requires ready { WasAccepted asked.now }
         requires found { WasFound self.now asked.now }
         requires loaded { is_loaded asked.now.part ≡ true }
-        ensures { SendsFor S.Source J.honest self.now asked.now W.contents W.fails out.old out.new result }
+        ensures { SendsFor S.Source J.honest self.now asked.now (writes W.contents W.fails out.old out.new) result }
     {
         let Ok(head) = image_head(
             host.alloc,
@@ -315,7 +316,7 @@ impl<
         requires loaded { is_loaded asked.now.part ≡ true }
         requires job { PlansJob J.System S.Source asked.now planned.now }
         requires head { PlansHead self.now asked.now planned.now }
-        ensures { SendsFor S.Source J.honest self.now asked.now W.contents W.fails out.old out.new result }
+        ensures { SendsFor S.Source J.honest self.now asked.now (writes W.contents W.fails out.old out.new) result }
     {
         // Laws of images and of groups.
         picture_is_shown(asked.entry);
@@ -368,7 +369,7 @@ impl<
         requires some { 0 < length passes.old }
         requires ready { WasAccepted asked.now }
         requires found { WasFound self.now asked.now }
-        ensures allowed { SendsFor S.Source J.honest self.now asked.now W.contents W.fails out.old out.new result }
+        ensures allowed { SendsFor S.Source J.honest self.now asked.now (writes W.contents W.fails out.old out.new) result }
         ensures unasked { is_loaded asked.now.part ≡ false → passes.new ≡ passes.old }
     {
         match asked.part {
@@ -422,7 +423,7 @@ impl<
         out: &mut W,
     ) -> Result<Sent, Cut>
         requires some { 0 < length passes.old }
-        ensures allowed { SendsForTarget S.Source J.honest self.now part target.now W.contents W.fails out.old out.new result }
+        ensures allowed { SendsForTarget S.Source J.honest self.now part target.now (writes W.contents W.fails out.old out.new) result }
         ensures unasked { SparesForTarget S.Source J.honest self.now part target.now passes.old passes.new }
     {
         let is_head = matches!(part, Part::Head { .. });
@@ -449,7 +450,7 @@ impl<
         out: &mut W,
     ) -> Result<Sent, Cut>
         requires some { 0 < length passes.old }
-        ensures allowed { SendsForTarget S.Source J.honest self.now part target.now W.contents W.fails out.old out.new result }
+        ensures allowed { SendsForTarget S.Source J.honest self.now part target.now (writes W.contents W.fails out.old out.new) result }
         ensures unasked { SparesForTarget S.Source J.honest self.now part target.now passes.old passes.new }
     {
         match outcome_of(host.alloc, &self.config, self.images(), target) {
@@ -478,8 +479,8 @@ impl<
         out: &mut W,
     ) -> Result<Sent, Cut>
         requires some { 0 < length passes.old }
-        ensures allowed { SendsForTarget S.Source J.honest self.now Body target.now W.contents W.fails out.old out.new result }
-        ensures framed { FramesPart self.now Body W.contents out.old out.new result }
+        ensures allowed { SendsForTarget S.Source J.honest self.now Body target.now (writes W.contents W.fails out.old out.new) result }
+        ensures framed { FramesPart self.now Body (writes W.contents W.fails out.old out.new) result }
         ensures unasked { SparesUnlessImage S.Source J.honest self.now target.now passes.old passes.new }
     {
         let host = Host { rt, alloc };
@@ -497,10 +498,10 @@ impl<
         out: &mut W,
     ) -> Result<Sent, Cut>
         requires some { 0 < length passes.old }
-        ensures allowed { SendsForCall S.Source J.honest self.now call.now W.contents W.fails out.old out.new result }
-        ensures framed { FramesCall self.now call.now W.contents out.old out.new result }
+        ensures allowed { SendsForCall S.Source J.honest self.now call.now (writes W.contents W.fails out.old out.new) result }
+        ensures framed { FramesCall self.now call.now (writes W.contents W.fails out.old out.new) result }
         ensures unasked { SparesForCall S.Source J.honest self.now call.now passes.old passes.new }
-        ensures whole { SendsWhole S.Source J.honest self.now call.now W.contents W.fails out.old out.new result }
+        ensures whole { SendsWhole S.Source J.honest self.now call.now (writes W.contents W.fails out.old out.new) result }
     {
         // A law of answers.
         whole_over_honest_devices::<R, S, J, W>();

@@ -1,5 +1,6 @@
 //! Connections of other nodes.
 
+ghost use Rattle.iiif_io.specs.Devices.{reads, writes};
 ghost use Rattle.iiif_server.specs.Peers.{RepliesToAsk, ServesPeer};
 
 use crate::node::Node;
@@ -50,7 +51,8 @@ impl<
         reader: &mut I,
         out: &mut W,
     )
-        ensures { ServesPeer S.Source J.honest self.now I.remaining I.fails W.contents W.fails reader.old reader.new out.old out.new }
+        ensures { ServesPeer S.Source J.honest self.now (reads I.remaining I.fails reader.old reader.new)
+            (writes W.contents W.fails out.old out.new) }
     {
         serve_peer(rt, alloc, self, passes, reader, out)
     }

@@ -2,6 +2,7 @@
 
 ghost use Rattle.std.specs.Prelude.{◌≡◌, ◌≤◌, ◌<◌, true, None, length};
 ghost use Rattle.iiif_answers.specs.Responses.{want_of_memory};
+ghost use Rattle.iiif_io.specs.Devices.{reads, writes};
 ghost use Rattle.iiif_server.specs.Answering.{ServesCame, ServesKnown};
 ghost use Rattle.iiif_server.specs.Code.{Closes, ClosesForHead, EndsCall, IsNthCall, ServesNext};
 
@@ -27,14 +28,14 @@ pub const CALL_LIMIT: u32 = 1000;
 
 /// Sends the answer to lack of memory, after which the connection closes.
 fn close_for_memory<W: Outlet>(out: &mut W) -> Result<Sent, Cut>
-    ensures { Closes W.contents W.fails out.old out.new want_of_memory }
+    ensures { Closes (writes W.contents W.fails out.old out.new) want_of_memory }
 {
     send_message(out, Part::Whole { closes: true }, Err(AllocError))
 }
 
 /// Sends the answer to a head that is none, or to lack of memory, after which the connection closes.
 fn close_for_head<W: Outlet>(alloc: Global, out: &mut W) -> Result<Sent, Cut>
-    ensures { ClosesForHead W.contents W.fails out.old out.new }
+    ensures { ClosesForHead (writes W.contents W.fails out.old out.new) }
 {
     let part = Part::Whole { closes: true };
     let message = refusal_message(alloc, part, Refusal::Head);
@@ -68,7 +69,7 @@ impl<
         out: &mut W,
     ) -> bool
         requires { 0 < length passes.old }
-        ensures { EndsCall S.Source J.honest self.now call.now W.contents W.fails out.old out.new result }
+        ensures { EndsCall S.Source J.honest self.now call.now (writes W.contents W.fails out.old out.new) result }
     {
         let begun = serving.watch.begin(serving.rt);
         let outcome = self.serve_one(serving.rt, serving.alloc, passes, call, out);
@@ -93,8 +94,8 @@ impl<
         requires some { 0 < length passes.old }
         requires no_fault { heads.old.fault ≡ None }
         requires few { n ≤ 1000 }
-        ensures next { ServesNext S.Source J.honest self.now I.remaining I.fails W.contents W.fails n heads.old heads.new out.old out.new
-            result }
+        ensures next { ServesNext S.Source J.honest self.now n (reads I.remaining I.fails heads.old heads.new)
+            (writes W.contents W.fails out.old out.new) result }
         ensures goes_on { result ≡ true → heads.new.fault ≡ None }
         ensures few { result ≡ true → n < 1000 }
     {
@@ -128,8 +129,8 @@ impl<
         out: &mut W,
     )
         requires { 0 < length passes.old }
-        ensures serves { ServesKnown S.Source J.honest self.now I.remaining I.fails W.contents W.fails reader out.old out.new }
-        ensures came { ServesCame S.Source J.honest self.now I.remaining I.fails W.contents W.fails out.old out.new }
+        ensures serves { ServesKnown S.Source J.honest self.now I.fails (writes W.contents W.fails out.old out.new) (I.remaining reader) }
+        ensures came { ServesCame S.Source J.honest self.now I.fails (writes W.contents W.fails out.old out.new) }
     {
         let Ok(mut heads) = Heads::new(serving.alloc, reader) else {
             let begun = serving.watch.begin(serving.rt);
