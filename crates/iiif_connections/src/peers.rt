@@ -5,13 +5,13 @@ use crate::other_versions::VersionNotice;
 use crate::passes::TakenPasses;
 use crate::times::Times;
 use crate::watcher::Watcher;
-use iiif_keys::{SumKey, System, TileKey};
+use iiif_keys::System;
 use iiif_listener::{Generation, OpenConnections, Pace, PacedWriter, Visit, close};
 use iiif_metrics::Visitors;
 use iiif_open_files::Opens;
 use iiif_peer_versions::{Compared, FileVersions};
 use iiif_peer_wire::serve_peer;
-use iiif_server::{Gate, Link, Node, SumCalls, TileCalls};
+use iiif_server::{Gate, Links, Node, SumCalls, TileCalls};
 use iiif_start::Stored;
 use std::alloc::Global;
 use std::net::TcpStream;
@@ -50,13 +50,7 @@ where
     pub generation: Generation<'a>,
 }
 
-impl<
-    'a,
-    R: Opens + Wait + Clock,
-    J: System,
-    N: Link<TileKey, J, R> + Link<SumKey, J, R>,
-    T: Gate<R>,
-> PeerCalls<'a, R, J, N, T> {
+impl<'a, R: Opens + Wait + Clock, J: System, N: Links<J, R>, T: Gate<R>> PeerCalls<'a, R, J, N, T> {
     /// Answers the asks of a connection in order, and closes it. Where a pass is missing, it is closed unanswered.
     fn answer<'v>(&self, rt: &'v R, alloc: Global, visit: Visit<'v, R>) -> Ended<'v, R> {
         let Visit { stream, place } = visit;

@@ -9,12 +9,12 @@ use crate::statistics::{StartStatistics, Statistics};
 use crate::times::Times;
 use crate::viewers::Viewers;
 use crate::watcher::Watcher;
-use iiif_keys::{SumKey, System, TileKey};
+use iiif_keys::System;
 use iiif_listener::{Arrival, Door, Inbox, OpenConnections, Refused};
 use iiif_metrics::Visitors;
 use iiif_open_files::Opens;
 use iiif_peer_versions::FileVersions;
-use iiif_server::{Gate, Link, Node, SumCalls, TileCalls};
+use iiif_server::{Gate, Links, Node, SumCalls, TileCalls};
 use iiif_services::{Listeners, Started, Starts};
 use iiif_start::{Images, Stored};
 use std::alloc::Global;
@@ -97,7 +97,7 @@ where
     R: Opens + Threads + Wait + Clock + Sync,
     R::Handle: Send + Sync,
     J: System + Send + Sync,
-    N: Link<TileKey, J, R> + Link<SumKey, J, R> + Sync,
+    N: Links<J, R> + Sync,
     T: Gate<R> + Sync,
 {
     /// Serves a connection to its end, and closes it. Where another generation serves before its next request came, it is given back.
@@ -172,7 +172,7 @@ where
     R: Opens + Net<Listener = TcpListener, Stream = TcpStream> + Threads + Wait + Clock + Sync,
     R::Handle: Send + Sync,
     J: System + Send + Sync,
-    N: Link<TileKey, J, R> + Link<SumKey, J, R> + Sync,
+    N: Links<J, R> + Sync,
     T: Gate<R> + Sync,
 {
     let Server {

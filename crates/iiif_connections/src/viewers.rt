@@ -11,11 +11,11 @@ use crate::passes::TakenPasses;
 use crate::times::Times;
 use crate::watcher::{ConnectionWatch, Watcher};
 use iiif_io::{Inlet, Outlet};
-use iiif_keys::{SumKey, System, TileKey};
+use iiif_keys::System;
 use iiif_listener::{Generation, OpenConnections, Pace, PacedWriter, Visit, close};
 use iiif_metrics::Visitors;
 use iiif_open_files::Opens;
-use iiif_server::{Gate, Link, Node, Serving, SumCalls, TileCalls, Watch};
+use iiif_server::{Gate, Links, Node, Serving, SumCalls, TileCalls, Watch};
 use iiif_start::Stored;
 use std::alloc::Global;
 use std::sync::Wait;
@@ -46,7 +46,7 @@ impl<
     'a,
     R: Opens + Threads + Wait + Clock + Sync,
     J: System + Send + Sync,
-    N: Link<TileKey, J, R> + Link<SumKey, J, R> + Sync,
+    N: Links<J, R> + Sync,
     T: Gate<R> + Sync,
 > Viewers<'a, R, J, N, T>
 where

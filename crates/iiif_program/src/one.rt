@@ -8,9 +8,9 @@ ghost use Rattle.iiif_start.specs.Stored.{bytes_of};
 
 use crate::hex::write_hex;
 use iiif_connections::passes::TakenPasses;
-use iiif_connections::{Cause, Gate, Link, Node};
+use iiif_connections::{Cause, Gate, Links, Node};
 use iiif_io::Outlet;
-use iiif_keys::{Fault, SumKey, System, TileKey};
+use iiif_keys::{Fault, System};
 use iiif_open_files::Opens;
 use iiif_start::{Stop, Stored};
 use std::alloc::Global;
@@ -41,7 +41,7 @@ where
     R::Handle: Send + Sync,
     O: Outlet,
     J: System + Send + Sync,
-    N: Link<TileKey, J, R> + Link<SumKey, J, R> + Sync,
+    N: Links<J, R> + Sync,
     T: Gate<R> + Sync,
     ensures held { AllHeld node.now.items → J.honest ≡ true → (text : List ℕ) × Appends (O.contents out.old) (O.contents out.new) text
         × IsAnswerOfHeld (bytes_of R.holds) node.now.settings node.now.items target.now ((before : O) × O.fails before out.new) text
@@ -72,7 +72,7 @@ where
     R::Handle: Send + Sync,
     O: Outlet,
     J: System + Send + Sync,
-    N: Link<TileKey, J, R> + Link<SumKey, J, R> + Sync,
+    N: Links<J, R> + Sync,
     T: Gate<R> + Sync,
 {
     let mut body = Vec::new(alloc);

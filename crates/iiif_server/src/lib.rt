@@ -7,6 +7,7 @@ pub use iiif_group_items::{JobQueue, Queued};
 pub use iiif_keys::{Fault, is_name};
 pub use iiif_sum_group::{Gate, Kept, Link, NoGate, NoLink, Note, Passes, SumCalls, TileCalls};
 pub use iiif_tile_group::{AddFault, Catalogue};
+pub use links::Links;
 pub use node::Node;
 pub use room::Room;
 pub use serving::Serving;
@@ -14,6 +15,7 @@ pub use watch::Watch;
 
 mod asking;
 pub mod group_config;
+pub mod links;
 pub mod node;
 mod peak;
 pub mod peers;

@@ -14,6 +14,7 @@ ghost use Rattle.iiif_server.specs.Nodes.{StandsFor};
 
 use crate::asking::{Asked, Host, Planned};
 use crate::group_config::GroupConfig;
+use crate::links::Links;
 use crate::peak::Peak;
 use crate::room::Room;
 use iiif_answers::accepted::Accepted;
@@ -35,7 +36,7 @@ use iiif_pixel::NoMemory;
 use iiif_request::Refusal;
 use iiif_source::Source;
 use iiif_sum_group::{
-    Gate, Groups, Handle, Link, NoGate, NoLink, Note, Passes, Step, SumCalls, TileCalls, Tiles,
+    Gate, Groups, Handle, NoGate, NoLink, Note, Passes, Step, SumCalls, TileCalls, Tiles,
 };
 use iiif_tables::Class;
 use iiif_tile_group::{Catalogue, ImageEntry, Images};
@@ -266,7 +267,7 @@ impl<
     R: Threads + Wait + Clock + Sync,
     S: Source<R> + Drop + Sync,
     J: System + Send + Sync,
-    N: Link<TileKey, J, R> + Link<SumKey, J, R> + Sync,
+    N: Links<J, R> + Sync,
     T: Gate<R> + Sync,
 > Node<R, S, J, N, T> {
     /// Sends an image for an accepted request, band by band.

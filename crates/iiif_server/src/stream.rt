@@ -6,6 +6,7 @@ ghost use Rattle.iiif_io.specs.Devices.{reads, writes};
 ghost use Rattle.iiif_server.specs.Answering.{ServesCame, ServesKnown};
 ghost use Rattle.iiif_server.specs.Code.{Closes, ClosesForHead, EndsCall, IsNthCall, ServesNext};
 
+use crate::links::Links;
 use crate::node::Node;
 use crate::serving::Serving;
 use crate::watch::Watch;
@@ -14,10 +15,10 @@ use iiif_answers::sending::send_message;
 use iiif_answers::{Cut, Part, Sent};
 use iiif_http_front::{Call, HeadFault, Heads};
 use iiif_io::{Inlet, Outlet};
-use iiif_keys::{SumKey, System, TileKey};
+use iiif_keys::System;
 use iiif_request::Refusal;
 use iiif_source::Source;
-use iiif_sum_group::{Gate, Link, Passes};
+use iiif_sum_group::{Gate, Passes};
 use std::alloc::{AllocError, Global};
 use std::sync::Wait;
 use std::thread::Threads;
@@ -57,7 +58,7 @@ impl<
     R: Threads + Wait + Clock + Sync,
     S: Source<R> + Drop + Sync,
     J: System + Send + Sync,
-    N: Link<TileKey, J, R> + Link<SumKey, J, R> + Sync,
+    N: Links<J, R> + Sync,
     T: Gate<R> + Sync,
 > Node<R, S, J, N, T> {
     /// Answers a call, of which the watch is told, and says whether another may follow.

@@ -5,10 +5,10 @@ use crate::fixtures::is_same;
 use iiif_canonical::Limits;
 use iiif_connections::times::USUAL;
 use iiif_connections::{
-    Catalogue, Config, Link, Node, Nodes, Room, Server, Start, Times, Watcher, among,
+    Catalogue, Config, Links, Node, Nodes, Room, Server, Start, Times, Watcher, among,
     serve_generation,
 };
-use iiif_keys::{PARTS, SumKey, System, TileKey};
+use iiif_keys::{PARTS, System};
 use iiif_open_files::Opens;
 use iiif_listener::{Inbox, OpenConnections};
 use iiif_log::write_lines;
@@ -168,7 +168,7 @@ where
     R: Opens + Net<Listener = TcpListener, Stream = TcpStream> + Threads + Wait + Clock + Sync,
     R::Handle: Send + Sync,
     J: System + Send + Sync,
-    N: Link<TileKey, J, R> + Link<SumKey, J, R> + Sync,
+    N: Links<J, R> + Sync,
     T: Gate<R> + Sync,
 {
     fn run(self) -> Ended {
@@ -203,7 +203,7 @@ where
     R: Opens + Net<Listener = TcpListener, Stream = TcpStream> + Threads + Wait + Clock + Sync,
     R::Handle: Send + Sync,
     J: System + Send + Sync,
-    N: Link<TileKey, J, R> + Link<SumKey, J, R> + Sync,
+    N: Links<J, R> + Sync,
     T: Gate<R> + Sync,
 {
     let listeners = stage.listeners;
@@ -252,7 +252,7 @@ where
     R: Opens + Net<Listener = TcpListener, Stream = TcpStream> + Threads + Wait + Clock + Sync,
     R::Handle: Send + Sync,
     J: System + Send + Sync,
-    N: Link<TileKey, J, R> + Link<SumKey, J, R> + Sync,
+    N: Links<J, R> + Sync,
     T: Gate<R> + Sync,
 {
     let pipe = stage.pipe;
