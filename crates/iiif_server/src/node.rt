@@ -1,6 +1,6 @@
 //! A node: what it was told, its images, their tiles and sums, and its answers.
 
-ghost use Rattle.std.specs.Prelude.{◌≡◌, ◌<◌, ◌≤◌, ◌^◌, false, true, IfOk, length};
+ghost use Rattle.std.specs.Prelude.{◌≡◌, ◌<◌, ◌≤◌, ◌*◌, false, true, IfOk, length};
 ghost use Rattle.iiif_answers.specs.Outcomes.{IsReady};
 ghost use Rattle.iiif_answers.specs.Responses.{is_loaded};
 ghost use Rattle.iiif_answers.specs.declared.part.Part.TheVariants.{Body};
@@ -47,20 +47,32 @@ use std::sync::ledger::{Blank, Ledger};
 use std::thread::Threads;
 use std::time::Clock;
 
-/// Returns how many jobs of so many workers each make their blocks at a time: as many as each has workers, and so many that four work in
-/// all.
-fn jobs_at_a_time(workers: u32) -> u32
-    ensures { (0 < result) × (workers ≤ result) }
+/// Returns how many light jobs of so many workers each make their blocks at a time: as many as each has workers, and four at most; four
+/// where each has one.
+fn light_jobs(workers: u32) -> u32
+    ensures { (2 ≤ result) × (result ≤ 4) }
 {
-    workers.max(4 / workers.max(1))
+    if workers < 2 { 4 } else { workers.min(4) }
+}
+
+/// Returns how many heavy jobs of so many workers each make their blocks at a time: as many as take four threads, and two at least, so that
+/// one that waits for its reads leaves the processors to another.
+fn heavy_jobs(workers: u32) -> u32
+    ensures two { 2 ≤ result }
+    ensures threads { 2 < result → result * workers ≤ 4 }
+{
+    if workers < 2 { 4 } else { 2 }
 }
 
 /// Makes the queue that admits jobs to making blocks, among so many nodes. Of several nodes it admits all light jobs: there a job mostly
 /// waits for replies, and one that waits for a slow node is not to hold the others.
 fn job_queue(alloc: Global, workers: u32, nodes: usize) -> JobQueue {
-    let most = jobs_at_a_time(workers);
-    let light = if nodes > 1 { u32::MAX } else { most };
-    JobQueue::new(alloc, light, most)
+    let light = if nodes > 1 {
+        u32::MAX
+    } else {
+        light_jobs(workers)
+    };
+    JobQueue::new(alloc, light, heavy_jobs(workers))
 }
 
 /// Sends an image as `send_image` does, and tells the peak how much was kept beside it.
