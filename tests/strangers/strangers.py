@@ -172,8 +172,8 @@ ATTACKS = {
     "64 idle connections at the listeners of statistics and nodes": held_elsewhere,
 }
 
-# A rate is known after each ten seconds of waiting. The first ones may count what the system's buffers took, 3 MB of each answer.
-SETTLED = {"buffer": 4096, "reads": True, "before": 45}
+# A rate is known after each ten seconds of waiting. What the system's buffers took at once, 3 MB of each answer, doesn't count.
+SETTLED = {"buffer": 4096, "reads": True, "before": 15}
 
 # These take some hundred seconds and little else, so they run side by side.
 LONG = {

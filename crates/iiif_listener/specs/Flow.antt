@@ -4,6 +4,10 @@ use Rattle.std.specs.Prelude.{nat_le, if◌then◌else◌}
 use Rattle.iiif_listener.specs.declared.flow.Flow.{Flow}
 use Rattle.iiif_listener.specs.declared.flow.Rate.{Rate}
 
+-- how long a write of so many milliseconds waited for its reader: not at all, where it took less than fifty
+abbrev pub waited_for : ℕ → ℕ
+waited_for millis = if nat_lt millis 50 then 0 else millis
+
 -- nothing was written yet
 abbrev pub begun : Rate → Flow
 begun rate = record { rate = rate; waited = 0; taken = 0 }

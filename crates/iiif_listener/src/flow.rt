@@ -1,7 +1,18 @@
 //! The least rate at which an answer is to be taken.
 
 ghost use Rattle.std.specs.Prelude.{◌≡◌};
-ghost use Rattle.iiif_listener.specs.Flow.{begun, goes_on, taken_by};
+ghost use Rattle.iiif_listener.specs.Flow.{begun, goes_on, taken_by, waited_for as waited_in};
+
+/// The milliseconds of a write from which on it says something of its reader.
+const AT_ONCE: u64 = 50;
+
+/// Returns how long a write waited for its reader, of the milliseconds that it took: 0 where it took less than 50. The system's buffers took
+/// its bytes then, and a busy machine its time.
+pub fn waited_for(millis: u64) -> u64
+    ensures { result ≡ waited_in millis }
+{
+    if millis < AT_ONCE { 0 } else { millis }
+}
 
 /// The least rate of a reader: so many bytes a second, over each period of so many milliseconds of waiting. At 0 bytes it may be as slow as
 /// it likes.
@@ -31,7 +42,7 @@ impl Flow {
         }
     }
 
-    /// Counts a write that took so many milliseconds, and returns whether the answer goes on. Bytes that are written at once were taken by
+    /// Counts a write that waited so many milliseconds, and returns whether the answer goes on. Bytes of one that didn't wait were taken by
     /// the system's buffers, and say nothing of the reader: they count for neither. Once the waits add up to the period, the rate is looked
     /// at, and all begins anew.
     pub fn take(&mut self, waited: u64, bytes: u64) -> bool

@@ -5,7 +5,7 @@
 pub use address::address_of;
 pub use admission::Admission;
 pub use closing::close;
-pub use flow::{Flow, Rate};
+pub use flow::{Flow, Rate, waited_for};
 pub use generations::{Generation, Generations};
 pub use inbox::{Arrival, Door, Inbox};
 pub use listen::{Gateway, Refused, bind, stop, take_each};

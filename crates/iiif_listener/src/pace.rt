@@ -2,7 +2,7 @@
 
 ghost use Rattle.std.specs.Prelude.{◌≤◌, ◌++◌, IfOk, IfSome, length};
 
-use crate::flow::Flow;
+use crate::flow::{Flow, waited_for};
 use crate::generations::Generation;
 use crate::open_connections::OpenConnections;
 use crate::places::Place;
@@ -353,7 +353,7 @@ pub fn write_limit(stalled: Duration) -> Duration {
 }
 
 impl<'a, R: Clock + Wait> PacedWriter<'a, R> {
-    /// Tells the place of a write of so many bytes that took so many milliseconds. One that took none says nothing of the reader.
+    /// Tells the place of a write of so many bytes that waited so many milliseconds. One that didn't wait says nothing of the reader.
     fn tell(&self, waited: u64, bytes: usize) {
         if waited == 0 {
             return;
@@ -371,7 +371,7 @@ impl<'a, R: Clock + Wait> PacedWriter<'a, R> {
         let (Ok(begun), Ok(now)) = (begun, self.pace.now(self.rt)) else {
             return;
         };
-        let waited = now.saturating_sub(begun);
+        let waited = waited_for(now.saturating_sub(begun));
         self.tell(waited, bytes);
         if !self.flow.take(waited, bytes as u64) {
             self.pace.slow.store(true, Ordering::SeqCst);

@@ -3,7 +3,7 @@
 use crate::fixtures::is_same;
 use crate::wire::echo::connected;
 use iiif_io::Outlet;
-use iiif_listener::{Flow, Generation, Generations, Pace, PacedWriter, Places, Rate, Visit};
+use iiif_listener::{Flow, Generation, Generations, Pace, PacedWriter, Places, Rate, Visit, waited_for};
 use std::io::{Read, Write};
 use std::net::{IpAddr, Ipv4Addr, Shutdown, TcpStream};
 use std::rt::HostRuntime;
@@ -109,6 +109,13 @@ fn stream_of_a_peer_that_was_looked_for_waits_on(rt: HostRuntime) {
         matches!(waited, Some(time) if time >= Duration::from_millis(90)),
         "{waited:?}"
     );
+}
+
+#[test]
+fn a_write_waits_for_its_reader_from_50_ms_on(rt: HostRuntime) {
+    for (millis, waited) in [(0, 0), (1, 0), (49, 0), (50, 50), (10_000, 10_000)] {
+        assert!(rt; is_same(&waited_for(millis), &waited), "{millis}");
+    }
 }
 
 /// Writes, the milliseconds and the bytes of each, and whether the answer goes on behind it, at 4 bytes a second over each 3 seconds.
