@@ -1,12 +1,12 @@
 //! Connections of other nodes.
 
-use crate::connections::{Ended, Reading, ends};
+use crate::connections::{Ended, Reading, close_served, ends};
 use crate::other_versions::VersionNotice;
 use crate::passes::TakenPasses;
 use crate::times::Times;
 use crate::watcher::Watcher;
 use iiif_keys::System;
-use iiif_listener::{Generation, OpenConnections, Pace, PacedWriter, Visit, close};
+use iiif_listener::{Generation, OpenConnections, Pace, PacedWriter, Visit};
 use iiif_metrics::Visitors;
 use iiif_open_files::Opens;
 use iiif_peer_versions::{Compared, FileVersions};
@@ -102,8 +102,7 @@ impl<'a, R: Opens + Wait + Clock, J: System, N: Links<J, R>, T: Gate<R>> PeerCal
         if pace.is_moved() {
             return Ended::Moved(Visit { stream, place });
         }
-        close(rt, &place, stream);
-        Ended::Served
+        close_served(rt, &place, stream)
     }
 
     /// Answers the asks of a connection in order, and closes it. The connection is counted. One that waits for an ask once another
@@ -119,6 +118,10 @@ impl<'a, R: Opens + Wait + Clock, J: System, N: Links<J, R>, T: Gate<R>> PeerCal
             Ended::Served => None,
             Ended::Refused => {
                 tally.count_refused(rt, Visitors::Peers);
+                None
+            }
+            Ended::Ousted => {
+                tally.count_ousted(rt, Visitors::Peers);
                 None
             }
             Ended::Moved(visit) => Some(visit),

@@ -3,11 +3,11 @@
 ghost use Rattle.std.specs.Prelude.{◌≡◌};
 ghost use Rattle.iiif_connections.specs.Telling.{service_of, starting};
 
-use crate::connections::{Ended, Reading, ends};
+use crate::connections::{Ended, Reading, close_served, ends};
 use crate::times::Times;
 use crate::watcher::Watcher;
 use iiif_keys::System;
-use iiif_listener::{Generation, OpenConnections, Pace, PacedWriter, Visit, close};
+use iiif_listener::{Generation, OpenConnections, Pace, PacedWriter, Visit};
 use iiif_metrics::{
     CacheMetrics, HeldMetrics, ImageMetrics, Measure, Metrics, PeerMetrics, Service, Services,
     Tally, Visitors, serve_metrics,
@@ -238,6 +238,10 @@ fn serve_one<'v, R: Wait + Clock, M: Measure<R>>(
             tally.count_refused(rt, Visitors::Statistics);
             None
         }
+        Ended::Ousted => {
+            tally.count_ousted(rt, Visitors::Statistics);
+            None
+        }
         Ended::Moved(visit) => Some(visit),
     }
 }
@@ -273,6 +277,5 @@ fn answer<'v, R: Wait + Clock, M: Measure<R>>(
     if pace.is_moved() {
         return Ended::Moved(Visit { stream, place });
     }
-    close(rt, &place, stream);
-    Ended::Served
+    close_served(rt, &place, stream)
 }

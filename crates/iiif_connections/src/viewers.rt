@@ -6,13 +6,13 @@ ghost use Rattle.iiif_answers.specs.Streams.{IsCame, IsConnection};
 ghost use Rattle.iiif_connections.specs.Held.{AllHeld, terms_of_held};
 ghost use Rattle.iiif_start.specs.Stored.{bytes_of};
 
-use crate::connections::{Ended, Reading, ends};
+use crate::connections::{Ended, Reading, close_served, ends};
 use crate::passes::TakenPasses;
 use crate::times::Times;
 use crate::watcher::{ConnectionWatch, Watcher};
 use iiif_io::{Inlet, Outlet};
 use iiif_keys::System;
-use iiif_listener::{Generation, OpenConnections, Pace, PacedWriter, Visit, close};
+use iiif_listener::{Generation, OpenConnections, Pace, PacedWriter, Visit};
 use iiif_metrics::Visitors;
 use iiif_open_files::Opens;
 use iiif_server::{Gate, Links, Node, Serving, SumCalls, TileCalls, Watch};
@@ -68,6 +68,10 @@ where
                 tally.count_refused(rt, Visitors::Viewers);
                 None
             }
+            Ended::Ousted => {
+                tally.count_ousted(rt, Visitors::Viewers);
+                None
+            }
             Ended::Moved(visit) => Some(visit),
         }
     }
@@ -105,8 +109,7 @@ where
         if pace.is_moved() {
             return Ended::Moved(Visit { stream, place });
         }
-        close(rt, &place, stream);
-        Ended::Served
+        close_served(rt, &place, stream)
     }
 
     /// Answers the calls of a connection in order, over any reader and writer, and tells a watch of each. Returns whether passes for its

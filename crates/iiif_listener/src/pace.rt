@@ -38,13 +38,15 @@ pub enum Departure {
     Left,
     /// Nothing was taken for as long as is waited.
     Stalled,
-    /// It was taken slower than the least rate, or so slowly that another connection was given the place.
+    /// It was taken slower than the least rate.
     Slow,
+    /// Another connection was given the place.
+    Ousted,
 }
 
 /// The times of a connection: its start, the milliseconds until something was last read and last written, whether something was written
 /// since the last poll, whether nothing was read since then or since the start, the bytes of the last body, the time-out of a head as a
-/// whole, whether its reader was found to be too slow or stalled, and whether the input was ended for another generation.
+/// whole, whether its reader was found to be too slow, stalled or without its place, and whether the input was ended for another generation.
 #[derive(Drop)]
 pub struct Pace {
     start: Instant,
@@ -56,6 +58,7 @@ pub struct Pace {
     limit: Duration,
     slow: AtomicBool,
     stalled: AtomicBool,
+    ousted: AtomicBool,
     moved: AtomicBool,
 }
 
@@ -72,6 +75,7 @@ impl Pace {
             limit,
             slow: AtomicBool::new(false),
             stalled: AtomicBool::new(false),
+            ousted: AtomicBool::new(false),
             moved: AtomicBool::new(false),
         })
     }
@@ -98,7 +102,9 @@ impl Pace {
 
     /// Returns why an answer that was cut off isn't taken any more, as far as its writer found out.
     pub fn departure(&self) -> Departure {
-        if self.slow.load(Ordering::SeqCst) {
+        if self.ousted.load(Ordering::SeqCst) {
+            Departure::Ousted
+        } else if self.slow.load(Ordering::SeqCst) {
             Departure::Slow
         } else if self.stalled.load(Ordering::SeqCst) {
             Departure::Stalled
@@ -378,8 +384,14 @@ impl<'a, R: Clock + Wait> PacedWriter<'a, R> {
         }
     }
 
-    /// Writes some of two texts, and tries again where the reader stalls, up to ten times. Where the connection was shut down for another,
-    /// its reader was too slow.
+    /// Notes that the connection takes no more, where another one has its place.
+    fn check_place(&self) {
+        if !self.place.is_kept() {
+            self.pace.ousted.store(true, Ordering::SeqCst);
+        }
+    }
+
+    /// Writes some of two texts, and tries again where the reader stalls, up to ten times.
     fn try_both(&mut self, first: &[u8], second: &[u8]) -> io::Result<usize>
         ensures { IfOk result (λ n. n ≤ length (first.now ++ second.now)) }
     {
@@ -390,9 +402,7 @@ impl<'a, R: Clock + Wait> PacedWriter<'a, R> {
             match self.stream.put_both(first, second) {
                 Err(error) if is_silence(error.kind()) => {}
                 Err(error) => {
-                    if !self.place.is_kept() {
-                        self.pace.slow.store(true, Ordering::SeqCst);
-                    }
+                    self.check_place();
                     return Err(error);
                 }
                 Ok(count) => return Ok(count),
@@ -428,11 +438,15 @@ impl<'a, R: Clock + Wait> Outlet for PacedWriter<'a, R> {
     /// for longer than `patience`.
     fn is_gone(&self) -> bool {
         if is_reset(&self.stream) {
+            self.check_place();
             return true;
         }
         match self.pace.making(self.rt) {
-            Ok(making) => making >= self.patience && is_ended(&self.stream),
-            Err(_) => false,
+            Ok(making) if making >= self.patience && is_ended(&self.stream) => {
+                self.check_place();
+                true
+            }
+            Ok(_) | Err(_) => false,
         }
     }
 

@@ -18,7 +18,7 @@ use Rattle.iiif_log.specs.Moments.{IsMomentText, three_digits}
 use Rattle.iiif_log.specs.PeerLines.{PeerLinesAreLines, PeerLinesTellTurns, peer_words, turn_word}
 use Rattle.iiif_log.specs.declared.answered.Answered.{Answered}
 use Rattle.iiif_log.specs.declared.answered.CutCause.{CutCause}
-use Rattle.iiif_log.specs.declared.answered.CutCause.TheVariants.{Viewer, Slow, Rate, Source, Memory}
+use Rattle.iiif_log.specs.declared.answered.CutCause.TheVariants.{Viewer, Slow, Rate, Source, Memory, Ousted}
 use Rattle.iiif_log.specs.declared.answered.Outcome.{Outcome}
 use Rattle.iiif_log.specs.declared.answered.Outcome.TheVariants.{Whole, Cut}
 use Rattle.iiif_log.specs.declared.peer.PeerTurn.{PeerTurn}
@@ -111,6 +111,8 @@ cause_seen Source = all_seen (codes "source")
     (omega arith, (omega arith, (omega arith, (omega arith, (omega arith, (omega arith, tt))))))
 cause_seen Memory = all_seen (codes "memory")
     (omega arith, (omega arith, (omega arith, (omega arith, (omega arith, (omega arith, tt))))))
+cause_seen Ousted = all_seen (codes "ousted")
+    (omega arith, (omega arith, (omega arith, (omega arith, (omega arith, (omega arith, tt))))))
 
 last_seen : (o : Outcome) → AllByRecursion Word (last_words o)
 last_seen (Whole s) = tt
@@ -177,7 +179,8 @@ cause_of (a ∷ b ∷ rest) =
     if a == 118 then Viewer else (
     if a == 114 then Rate else (
     if a == 109 then Memory else (
-    if b == 108 then Slow else Source)))
+    if a == 111 then Ousted else (
+    if b == 108 then Slow else Source))))
 
 cause_back : (c : CutCause) → cause_of (cause_word c) ≡ c
 cause_back Viewer = refl
@@ -185,6 +188,7 @@ cause_back Slow = refl
 cause_back Rate = refl
 cause_back Source = refl
 cause_back Memory = refl
+cause_back Ousted = refl
 
 causes_differ : (c d : CutCause) → cause_word c ≡ cause_word d → c ≡ d
 causes_differ c d e = sym (cause_back c) ∙ (ap cause_of e ∙ cause_back d)

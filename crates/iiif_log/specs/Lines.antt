@@ -5,7 +5,7 @@ use Rattle.iiif_log.specs.Escapes.{escaped}
 use Rattle.iiif_log.specs.Moments.{IsMomentText}
 use Rattle.iiif_log.specs.declared.answered.Answered.{Answered}
 use Rattle.iiif_log.specs.declared.answered.CutCause.{CutCause}
-use Rattle.iiif_log.specs.declared.answered.CutCause.TheVariants.{Viewer, Slow, Rate, Source, Memory}
+use Rattle.iiif_log.specs.declared.answered.CutCause.TheVariants.{Viewer, Slow, Rate, Source, Memory, Ousted}
 use Rattle.iiif_log.specs.declared.answered.Outcome.{Outcome}
 use Rattle.iiif_log.specs.declared.answered.Outcome.TheVariants.{Whole, Cut}
 
@@ -21,6 +21,7 @@ cause_word Slow = codes "slow"
 cause_word Rate = codes "rate"
 cause_word Source = codes "source"
 cause_word Memory = codes "memory"
+cause_word Ousted = codes "ousted"
 
 -- what stands behind the target of an answer that was cut off: that it was, and why
 abbrev pub cut_word : Outcome → List ℕ

@@ -15,6 +15,8 @@ pub enum CutCause {
     Source,
     /// Memory was refused.
     Memory,
+    /// Another connection was given the place of its reader's.
+    Ousted,
 }
 
 /// How an answer ended.

@@ -32,6 +32,7 @@ fn cause_text(cause: CutCause) -> &'static str
         CutCause::Rate => "rate",
         CutCause::Source => "source",
         CutCause::Memory => "memory",
+        CutCause::Ousted => "ousted",
     }
 }
 

@@ -3,7 +3,7 @@ use Rattle.std.specs.Prelude.{ℕ, ◌+◌, ◌-◌, ◌==◌, [], ◌∷◌, if
 use Rattle.iiif_io.specs.Counting.{capped}
 use Rattle.iiif_metrics.specs.declared.counts.Counts.{Counts}
 use Rattle.iiif_log.specs.declared.answered.CutCause.{CutCause}
-use Rattle.iiif_log.specs.declared.answered.CutCause.TheVariants.{Viewer, Slow, Rate, Source, Memory}
+use Rattle.iiif_log.specs.declared.answered.CutCause.TheVariants.{Viewer, Slow, Rate, Source, Memory, Ousted}
 use Rattle.iiif_metrics.specs.declared.counts.Visitors.{Visitors}
 use Rattle.iiif_metrics.specs.declared.counts.Visitors.TheVariants.{Viewers, Peers, Statistics}
 
@@ -17,10 +17,11 @@ place_of s =
 abbrev pub no_counts : Counts
 no_counts = record {
   whole = 0 ∷ 0 ∷ 0 ∷ 0 ∷ 0 ∷ 0 ∷ 0 ∷ 0 ∷ [];
-  cut = 0 ∷ 0 ∷ 0 ∷ 0 ∷ 0 ∷ [];
+  cut = 0 ∷ 0 ∷ 0 ∷ 0 ∷ 0 ∷ 0 ∷ [];
   bytes = 0;
   open_now = 0 ∷ 0 ∷ 0 ∷ [];
   refused = 0 ∷ 0 ∷ 0 ∷ [];
+  ousted = 0 ∷ 0 ∷ 0 ∷ [];
 }
 
 -- one more whole answer of a status, of so many bytes
@@ -37,6 +38,7 @@ cause_place Slow = 1
 cause_place Rate = 2
 cause_place Source = 3
 cause_place Memory = 4
+cause_place Ousted = 5
 
 -- one more answer that was cut off for a cause behind so many bytes
 abbrev pub with_cut : CutCause → ℕ → Counts → Counts
@@ -62,3 +64,7 @@ with_closed v c = record c { open_now = slice_set c.open_now (listener_place v) 
 -- one more was closed unanswered
 abbrev pub with_refused : Visitors → Counts → Counts
 with_refused v c = record c { refused = slice_set c.refused (listener_place v) (capped (slice_index c.refused (listener_place v) + 1)) }
+
+-- of one more another has the place
+abbrev pub with_ousted : Visitors → Counts → Counts
+with_ousted v c = record c { ousted = slice_set c.ousted (listener_place v) (capped (slice_index c.ousted (listener_place v) + 1)) }

@@ -105,6 +105,17 @@ refused_family counts =
       samples = listener_samples counts;
     }
 
+-- those whose place another one was given
+abbrev pub ousted_family : List ℕ → Family
+ousted_family counts =
+    record {
+      name = codes "iiif_connections_ousted_total";
+      help = codes "Connections that were closed for another one.";
+      kind =
+          Counter;
+      samples = listener_samples counts;
+    }
+
 -- what was counted of answers, whatever their status, and what was kept beside one of them, under names with this front
 abbrev pub server_families : List ℕ → Counts → ℕ → List Family
 server_families front c kept =
@@ -121,6 +132,7 @@ cut_samples cut =
     ∷ (codes "{cause=\"rate\"}", slice_index cut 2)
     ∷ (codes "{cause=\"source\"}", slice_index cut 3)
     ∷ (codes "{cause=\"memory\"}", slice_index cut 4)
+    ∷ (codes "{cause=\"ousted\"}", slice_index cut 5)
     ∷ []
 
 abbrev pub cut_family : List ℕ → Family

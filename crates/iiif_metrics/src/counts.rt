@@ -3,7 +3,7 @@
 ghost use Rattle.std.specs.Prelude.{◌≡◌, ◌+◌, ◌-◌};
 ghost use Rattle.iiif_io.specs.Counting.{capped};
 ghost use Rattle.iiif_metrics.specs.Counting.{cause_place, no_counts, place_of, listener_place, with_answer, with_closed, with_cut, with_opened};
-ghost use Rattle.iiif_metrics.specs.Counting.{with_refused};
+ghost use Rattle.iiif_metrics.specs.Counting.{with_ousted, with_refused};
 
 use crate::times::{AnswerKind, AnswerTimes};
 use iiif_log::CutCause;
@@ -28,13 +28,15 @@ pub struct Counts {
     /// The answers that were sent whole, by status, in the order of [`STATUSES`], and those of any other status last.
     pub whole: [u64; 8],
     /// The answers that were cut off, by cause, in the order of [`CutCause`].
-    pub cut: [u64; 5],
+    pub cut: [u64; 6],
     /// The bytes of all answers.
     pub bytes: u64,
     /// The connections that are open, by whose they are, in the order of [`Visitors`].
     pub open_now: [u64; 3],
     /// The connections that were closed unanswered, in the same order.
     pub refused: [u64; 3],
+    /// The connections whose place another one was given, in the same order.
+    pub ousted: [u64; 3],
 }
 
 /// Returns the place of a status among the counts.
@@ -74,6 +76,7 @@ fn cause_place(cause: CutCause) -> usize
         CutCause::Rate => 2,
         CutCause::Source => 3,
         CutCause::Memory => 4,
+        CutCause::Ousted => 5,
     }
 }
 
@@ -84,10 +87,11 @@ impl Counts {
     {
         Counts {
             whole: [0; 8],
-            cut: [0; 5],
+            cut: [0; 6],
             bytes: 0,
             open_now: [0; 3],
             refused: [0; 3],
+            ousted: [0; 3],
         }
     }
 
@@ -132,6 +136,14 @@ impl Counts {
         let place = listener_place(visitors);
         self.refused[place] = self.refused[place].saturating_add(1);
     }
+
+    /// Counts a connection whose place another one was given.
+    pub fn count_ousted(&mut self, visitors: Visitors)
+        ensures { self.new ≡ with_ousted visitors self.old }
+    {
+        let place = listener_place(visitors);
+        self.ousted[place] = self.ousted[place].saturating_add(1);
+    }
 }
 
 /// Counts that threads share. They stand behind a lock, and each call does there what the method of [`Counts`] of its name does.
@@ -173,6 +185,11 @@ impl Tally {
     /// Counts a connection that was closed unanswered.
     pub fn count_refused<R: Wait>(&self, rt: &R, visitors: Visitors) {
         self.counts.lock(rt).count_refused(visitors);
+    }
+
+    /// Counts a connection whose place another one was given.
+    pub fn count_ousted<R: Wait>(&self, rt: &R, visitors: Visitors) {
+        self.counts.lock(rt).count_ousted(visitors);
     }
 
     /// Counts a whole answer of a kind, which took so many microseconds.

@@ -3,7 +3,7 @@
 ghost use Rattle.std.specs.Prelude.{◌≡◌, ◌++◌, ℕ, List, IfOk, OnOk, map, string_bytes};
 ghost use Rattle.std.specs.List.{flat_map};
 ghost use Rattle.iiif_metrics.specs.Exposition.{answer_family, cache_families, cut_family, cut_samples, family_of, family_text};
-ghost use Rattle.iiif_metrics.specs.Exposition.{families_text, held_families, image_families};
+ghost use Rattle.iiif_metrics.specs.Exposition.{families_text, held_families, image_families, ousted_family};
 ghost use Rattle.iiif_metrics.specs.Exposition.{help_line, kind_word, listener_samples, open_family, refused_family, row_family};
 ghost use Rattle.iiif_metrics.specs.Exposition.{sample_line, sample_view, server_families, single, status_samples, type_line};
 ghost use Rattle.iiif_metrics.specs.Page.{text_of};
@@ -275,7 +275,7 @@ fn status_samples_in(whole: &[u64; 8]) -> [Sample<'static>; 8]
 }
 
 /// Counts the answers that were cut off for each cause.
-fn cut_samples_in(cut: &[u64; 5]) -> [Sample<'static>; 5]
+fn cut_samples_in(cut: &[u64; 6]) -> [Sample<'static>; 6]
     ensures { map sample_view result ≡ cut_samples cut.now }
 {
     [
@@ -284,6 +284,7 @@ fn cut_samples_in(cut: &[u64; 5]) -> [Sample<'static>; 5]
         sample_of("{cause=\"rate\"}", cut[2]),
         sample_of("{cause=\"source\"}", cut[3]),
         sample_of("{cause=\"memory\"}", cut[4]),
+        sample_of("{cause=\"ousted\"}", cut[5]),
     ]
 }
 
@@ -340,8 +341,21 @@ fn push_refused(text: &mut String, refused: &[u64; 3]) -> Result<(), NoMemory>
     )
 }
 
+/// Writes those whose place another one was given, by listener.
+fn push_ousted(text: &mut String, ousted: &[u64; 3]) -> Result<(), NoMemory>
+    ensures { OnOk result (string_bytes text.new ≡ string_bytes text.old ++ family_text (ousted_family ousted.now)) }
+{
+    push_family(
+        text,
+        "iiif_connections_ousted_total",
+        "Connections that were closed for another one.",
+        MetricKind::Counter,
+        &listener_samples_in(ousted),
+    )
+}
+
 /// Writes the answers that were cut off, by cause.
-fn push_cut(text: &mut String, cut: &[u64; 5]) -> Result<(), NoMemory>
+fn push_cut(text: &mut String, cut: &[u64; 6]) -> Result<(), NoMemory>
     ensures { OnOk result (string_bytes text.new ≡ string_bytes text.old ++ family_text (cut_family cut.now)) }
 {
     push_family(
@@ -381,6 +395,7 @@ pub fn metrics_text(
     push_rows(&mut text, "iiif_held_", &held_rows(&metrics.held))?;
     push_open(&mut text, &metrics.counts.open_now)?;
     push_refused(&mut text, &metrics.counts.refused)?;
+    push_ousted(&mut text, &metrics.counts.ousted)?;
     push_cut(&mut text, &metrics.counts.cut)?;
     push_rows(
         &mut text,

@@ -1,9 +1,13 @@
 //! Statistics of a node.
 
 use crate::connections::nodes::{SAMPLE, Scene};
-use crate::connections::viewers::{Sends, Text, is_full, is_sent, sent};
+use crate::connections::viewers::{
+    Sends, Text, answered_of_64, is_full, is_let_in, is_sent, sent,
+};
 use crate::connections::visits::{ANY, One, Visit, served};
 use crate::fixtures::{has_start, is_missing, is_same};
+use iiif_connections::Times;
+use iiif_connections::times::USUAL;
 use iiif_services::Listeners;
 use std::alloc::Global;
 use std::net::TcpListener;
@@ -205,6 +209,34 @@ pub(crate) fn are_counted_when_full(rt: &HostRuntime, listeners: &Listeners) -> 
 #[test]
 fn refused_connection_is_counted(rt: HostRuntime) {
     assert!(rt; served(&rt, &rt, &WATCHED, Visit::CountedWhenFull).is_some());
+}
+
+/// The lines once one of 64 idle viewers was closed for a new one.
+static OUSTED: [&str; 3] = [
+    "\niiif_connections_ousted_total{listener=\"viewers\"} 1\n",
+    "\niiif_connections_ousted_total{listener=\"statistics\"} 0\n",
+    "\niiif_connections_refused_total{listener=\"viewers\"} 0\n",
+];
+
+/// Whether who asks for the statistics is told of a viewer that was closed for a new one.
+pub(crate) fn is_ousted_one_counted(rt: &HostRuntime, listeners: &Listeners) -> bool {
+    let mut open = Vec::new(rt.alloc());
+    answered_of_64(rt, &listeners.viewers, &mut open) == Some(64)
+        && is_let_in(rt, &listeners.viewers) == Some(true)
+        && told(rt, listeners, &OUSTED).is_some()
+}
+
+#[test]
+fn ousted_connection_is_counted(rt: HostRuntime) {
+    let scene = Scene {
+        times: Times {
+            idle: 30_000,
+            whole: 30_000,
+            ..USUAL
+        },
+        ..WATCHED
+    };
+    assert!(rt; served(&rt, &rt, &scene, Visit::CountedWhenOusted).is_some());
 }
 
 /// Where the statistics can be asked for, if anywhere, and which listener ends.

@@ -116,7 +116,7 @@ pub(crate) fn is_let_in(rt: &HostRuntime, listener: &TcpListener) -> Option<bool
 }
 
 /// How many of 64 viewers are answered that stay open here.
-fn answered_of_64(
+pub(crate) fn answered_of_64(
     rt: &HostRuntime,
     listener: &TcpListener,
     open: &mut Vec<TcpStream>,

@@ -8,7 +8,9 @@ use crate::connections::peers::{
     Asked, are_asked_and_answered, are_both_halved, are_replied_and_sent,
 };
 use crate::connections::pipe::{Pipe, given_to, new_pipe};
-use crate::connections::stats_tests::{are_counted, are_counted_when_full, are_others_refused};
+use crate::connections::stats_tests::{
+    are_counted, are_counted_when_full, are_others_refused, is_ousted_one_counted,
+};
 use crate::connections::viewers::{Sends, give_way, is_sent};
 use iiif_listener::stop;
 use iiif_open_files::Opens;
@@ -46,6 +48,8 @@ pub(crate) enum Visit<'a> {
     Counted,
     /// Sixty-four viewers who ask and one more, and who asks for the statistics meanwhile.
     CountedWhenFull,
+    /// Sixty-four viewers who stay and don't ask and one more, and who asks for the statistics meanwhile.
+    CountedWhenOusted,
     /// A client that asks where the statistics are for something else.
     ForOthers,
     /// One of the listeners ends.
@@ -71,6 +75,7 @@ fn is_right<R: Wait>(rt: &R, host: &HostRuntime, stage: Stage<'_>, visit: Visit<
         Visit::BeforeReader => are_served_before_a_reader(rt, host, viewers, stage.pipe),
         Visit::Counted => are_counted(host, listeners),
         Visit::CountedWhenFull => are_counted_when_full(host, listeners),
+        Visit::CountedWhenOusted => is_ousted_one_counted(host, listeners),
         Visit::ForOthers => are_others_refused(host, listeners),
         Visit::NodeAndViewer(sends) => are_replied_and_sent(host, listeners, sends),
         Visit::Owner(asked, owner) => are_asked_and_answered(host, owner, viewers, asked),

@@ -5,8 +5,8 @@ use iiif_log::CutCause;
 use iiif_metrics::{Counts, Tally, Visitors};
 use std::sync::Wait;
 
-/// The counts once two viewers' connections were opened and one closed, one of another node's and two of others were refused, and three
-/// answers were sent and three cut off, two of them for one cause.
+/// The counts once two viewers' connections were opened and one closed, one of another node's and two of others were refused, one was
+/// ousted, and three answers were sent and three cut off, two of them for one cause.
 fn counted<R: Wait>(rt: &R) -> Counts {
     let tally = Tally::new();
     tally.count_opened(rt, Visitors::Viewers);
@@ -14,6 +14,7 @@ fn counted<R: Wait>(rt: &R) -> Counts {
     tally.count_refused(rt, Visitors::Peers);
     tally.count_refused(rt, Visitors::Statistics);
     tally.count_refused(rt, Visitors::Statistics);
+    tally.count_ousted(rt, Visitors::Peers);
     tally.count_answer(rt, 200, 1000);
     tally.count_answer(rt, 501, 10);
     tally.count_answer(rt, 418, 1);
@@ -28,10 +29,11 @@ fn counted<R: Wait>(rt: &R) -> Counts {
 fn answers_and_connections_are_counted(rt: HostRuntime) {
     let wanted = Counts {
         whole: [1, 0, 0, 0, 0, 0, 1, 1],
-        cut: [0, 0, 2, 0, 1],
+        cut: [0, 0, 2, 0, 1, 0],
         bytes: 1134,
         open_now: [1, 0, 0],
         refused: [0, 1, 2],
+        ousted: [0, 1, 0],
     };
     assert!(rt; is_same(&counted(&rt), &wanted));
 }

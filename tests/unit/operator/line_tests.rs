@@ -5,6 +5,7 @@ use iiif_log::{Answered, CutCause, Moment, Outcome, line_bytes, lost_line_bytes}
 use std::alloc::Global;
 
 /// An answer by its instant in milliseconds, method, target, outcome, bytes and milliseconds, and its line.
+#[derive(Clone, Copy)]
 struct Row {
     at: u64,
     method: &'static [u8],
@@ -31,7 +32,7 @@ fn is_right(alloc: Global, row: &Row) -> bool {
     }
 }
 
-static WHOLE: Row = Row {
+const WHOLE: Row = Row {
     at: 1_795_434_125_123,
     method: b"GET",
     target: b"/iiif/a/full/max/0/default.tif",
@@ -59,6 +60,18 @@ static CUT: Row = Row {
 #[test]
 fn cut_answer_has_its_line(rt: HostRuntime) {
     assert!(rt; is_right(rt.alloc(), &CUT));
+}
+
+static OUSTED: Row = Row {
+    outcome: Outcome::Cut(CutCause::Ousted),
+    bytes: 9,
+    line: b"2026-11-23T11:42:05.123Z GET - 9 12 /iiif/a/full/max/0/default.tif cut ousted\n",
+    ..WHOLE
+};
+
+#[test]
+fn answer_cut_for_another_connection_says_so(rt: HostRuntime) {
+    assert!(rt; is_right(rt.alloc(), &OUSTED));
 }
 
 static NO_CALL: Row = Row {

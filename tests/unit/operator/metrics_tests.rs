@@ -91,10 +91,11 @@ fn metrics() -> Metrics {
         },
         counts: Counts {
             whole: [1, 2, 3, 4, 5, 6, 7, 8],
-            cut: [41, 42, 43, 44, 45],
+            cut: [41, 42, 43, 44, 45, 46],
             bytes: 10,
             open_now: [11, 12, 13],
             refused: [14, 15, 16],
+            ousted: [24, 25, 26],
         },
         kept: 17,
     }
@@ -180,6 +181,11 @@ iiif_connections_open{listener=\"statistics\"} 13
 iiif_connections_refused_total{listener=\"viewers\"} 14
 iiif_connections_refused_total{listener=\"peers\"} 15
 iiif_connections_refused_total{listener=\"statistics\"} 16
+# HELP iiif_connections_ousted_total Connections that were closed for another one.
+# TYPE iiif_connections_ousted_total counter
+iiif_connections_ousted_total{listener=\"viewers\"} 24
+iiif_connections_ousted_total{listener=\"peers\"} 25
+iiif_connections_ousted_total{listener=\"statistics\"} 26
 # HELP iiif_answers_cut_total Answers that were cut off.
 # TYPE iiif_answers_cut_total counter
 iiif_answers_cut_total{cause=\"viewer\"} 41
@@ -187,6 +193,7 @@ iiif_answers_cut_total{cause=\"slow\"} 42
 iiif_answers_cut_total{cause=\"rate\"} 43
 iiif_answers_cut_total{cause=\"source\"} 44
 iiif_answers_cut_total{cause=\"memory\"} 45
+iiif_answers_cut_total{cause=\"ousted\"} 46
 # HELP iiif_answer_bytes_total Bytes of answers and their heads.
 # TYPE iiif_answer_bytes_total counter
 iiif_answer_bytes_total 10

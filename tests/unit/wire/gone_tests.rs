@@ -3,9 +3,11 @@
 use crate::fixtures::is_same;
 use crate::wire::echo::connected;
 use iiif_io::Outlet;
-use iiif_listener::{Flow, Generation, Generations, Pace, PacedWriter, Places, Rate, Visit, waited_for};
+use iiif_listener::{
+    Departure, Flow, Generation, Generations, Pace, PacedWriter, Places, Rate, Visit, waited_for,
+};
 use std::io::{Read, Write};
-use std::net::{IpAddr, Ipv4Addr, Shutdown, TcpStream};
+use std::net::{IpAddr, Ipv4Addr, Net, Shutdown, TcpListener, TcpStream};
 use std::rt::HostRuntime;
 use std::sync::Wait;
 use std::thread;
@@ -109,6 +111,52 @@ fn stream_of_a_peer_that_was_looked_for_waits_on(rt: HostRuntime) {
         matches!(waited, Some(time) if time >= Duration::from_millis(90)),
         "{waited:?}"
     );
+}
+
+/// Why a writer stops whose connection was idle while 64 others came: behind a write, or behind a look for its reader.
+fn departure_of_ousted<
+    R: Net<Listener = TcpListener, Stream = TcpStream> + Clock + Wait + AllocGlobal,
+>(rt: &R, writes: bool) -> Option<Departure> {
+    let alloc = rt.alloc();
+    let places = Places::new(alloc, 0).ok()?;
+    let generations = Generations::new(rt).ok()?;
+    let pace = Pace::new(rt, Duration::from_millis(1_000)).ok()?;
+    let from = IpAddr::V4(Ipv4Addr::LOCALHOST);
+    let (_near, far) = connected(rt)?;
+    let Visit { stream, place } = places.enter(rt, far, from, 0)?;
+    place.rest();
+    let (mut viewers, mut visits) = (Vec::new(alloc), Vec::new(alloc));
+    for _ in 0..64u32 {
+        let (viewer, stream) = connected(rt)?;
+        viewers.push(viewer).ok()?;
+        visits.push(places.enter(rt, stream, from, 0)?).ok()?;
+    }
+    let mut out = PacedWriter {
+        stream,
+        rt,
+        pace: &pace,
+        place: &place,
+        generation: Generation {
+            all: &generations,
+            number: 0,
+        },
+        patience: Duration::from_millis(0),
+        flow: Flow::new(ANY),
+    };
+    let stops = if writes {
+        out.put(b"a").is_err()
+    } else {
+        out.is_gone()
+    };
+    if stops { Some(pace.departure()) } else { None }
+}
+
+#[test]
+fn writer_without_its_place_knows_that_it_was_ousted(rt: HostRuntime) {
+    for writes in [false, true] {
+        let found = departure_of_ousted(&rt, writes);
+        assert!(rt; is_same(&found, &Some(Departure::Ousted)), "{writes}");
+    }
 }
 
 #[test]

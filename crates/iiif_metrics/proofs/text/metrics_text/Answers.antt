@@ -12,6 +12,7 @@ returns c = rw (
   c.in_ok-push_rows-5.ensures,
   c.server_rows.ensures (codes "iiif_"),
   c.in_ok-push_cut.ensures,
+  c.in_ok-push_ousted.ensures,
   c.in_ok-push_refused.ensures,
   c.in_ok-push_open.ensures,
   c.in_ok-push_rows-4.ensures,
