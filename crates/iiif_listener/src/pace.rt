@@ -46,7 +46,7 @@ pub enum Departure {
 
 /// The times of a connection: its start, the milliseconds until something was last read and last written, whether something was written
 /// since the last poll, whether nothing was read since then or since the start, the bytes of the last body, the time-out of a head as a
-/// whole, whether its reader was found to be too slow, stalled or without its place, and whether the input was ended for another generation.
+/// whole, the last eight bytes that were written, whether its reader was found to be too slow, stalled or without its place, and whether the input was ended for another generation.
 #[derive(Drop)]
 pub struct Pace {
     start: Instant,
@@ -60,6 +60,7 @@ pub struct Pace {
     stalled: AtomicBool,
     ousted: AtomicBool,
     moved: AtomicBool,
+    last: AtomicU64,
 }
 
 impl Pace {
@@ -77,6 +78,7 @@ impl Pace {
             stalled: AtomicBool::new(false),
             ousted: AtomicBool::new(false),
             moved: AtomicBool::new(false),
+            last: AtomicU64::new(0),
         })
     }
 
@@ -111,6 +113,27 @@ impl Pace {
         } else {
             Departure::Left
         }
+    }
+
+    /// Returns whether the last bytes that were written are these.
+    pub fn ends_with(&self, bytes: [u8; 8]) -> bool {
+        self.last.load(Ordering::SeqCst) == u64::from_be_bytes(bytes)
+    }
+
+    /// Notes the last of some bytes that were written.
+    fn note(&self, bytes: &[u8]) {
+        let mut last = self.last.load(Ordering::SeqCst);
+        for byte in &bytes[bytes.len().saturating_sub(8)..] {
+            last = last.wrapping_mul(256).wrapping_add(u64::from(*byte));
+        }
+        self.last.store(last, Ordering::SeqCst);
+    }
+
+    /// Notes the last of so many bytes of two texts, one behind the other, that were written.
+    fn note_both(&self, first: &[u8], second: &[u8], count: usize) {
+        let front = count.min(first.len());
+        self.note(&first[..front]);
+        self.note(&second[..(count - front).min(second.len())]);
     }
 
     /// Notes that something was read: the last answer was taken whole, however slowly.
@@ -418,6 +441,7 @@ impl<'a, R: Clock + Wait> Write for PacedWriter<'a, R> {
         let begun = self.pace.now(self.rt);
         let count = self.try_both(bytes, &[])?;
         self.count(begun, count, 0);
+        self.pace.note_both(bytes, &[], count);
         Ok(count)
     }
 
@@ -455,6 +479,7 @@ impl<'a, R: Clock + Wait> Outlet for PacedWriter<'a, R> {
         let count = self.try_both(first, second)?;
         // As where one text is written.
         self.count(begun, count, second.len());
+        self.pace.note_both(first, second, count);
         Ok(count)
     }
 }

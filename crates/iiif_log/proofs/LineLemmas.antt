@@ -19,8 +19,9 @@ use Rattle.iiif_log.specs.PeerLines.{PeerLinesAreLines, PeerLinesTellTurns, peer
 use Rattle.iiif_log.specs.declared.answered.Answered.{Answered}
 use Rattle.iiif_log.specs.declared.answered.CutCause.{CutCause}
 use Rattle.iiif_log.specs.declared.answered.CutCause.TheVariants.{Viewer, Slow, Rate, Source, Memory, Ousted}
+use Rattle.iiif_log.specs.declared.answered.Failure.TheVariants as failures
 use Rattle.iiif_log.specs.declared.answered.Outcome.{Outcome}
-use Rattle.iiif_log.specs.declared.answered.Outcome.TheVariants.{Whole, Cut}
+use Rattle.iiif_log.specs.declared.answered.Outcome.TheVariants.{Whole, Failed, Cut}
 use Rattle.iiif_log.specs.declared.peer.PeerTurn.{PeerTurn}
 use Rattle.iiif_log.specs.declared.peer.Turn.{Turn}
 use Rattle.iiif_log.specs.declared.peer.Turn.TheVariants.{LeftAlone, AskedAgain, Itself}
@@ -93,14 +94,15 @@ moment_seen millis text (dt, at, is) =
     subst Word (sym is) (both_seen _ _ (both_seen _ _ (datetime_seen dt)
     (one_more 46 _ (omega arith) (three_seen (millis % 1000) (omega arith)))) (dash_seen 90 (omega arith)))
 
-outcome_seen : (o : Outcome) → ((s : ℕ) → o ≡ Whole s → s < 2 ^ 16) → Word (outcome_word o)
-outcome_seen (Whole s) small = let below = small s refl in decimal_seen s (omega arith)
-outcome_seen (Cut c) small = dash_seen 45 (omega arith)
-
 -- these bytes are visible
 all_seen : (bs : List ℕ) → AllByRecursion (λ b. 32 < b) bs → Word bs
 all_seen [] v = none_seen
 all_seen (b ∷ bs) v = one_more b bs v.0 (all_seen bs v.1)
+
+outcome_seen : (o : Outcome) → ((s : ℕ) → o ≡ Whole s → s < 2 ^ 16) → Word (outcome_word o)
+outcome_seen (Whole s) small = let below = small s refl in decimal_seen s (omega arith)
+outcome_seen (Failed f) small = all_seen (codes "500") (omega arith, (omega arith, (omega arith, tt)))
+outcome_seen (Cut c) small = dash_seen 45 (omega arith)
 
 cause_seen : (c : CutCause) → Word (cause_word c)
 cause_seen Viewer = all_seen (codes "viewer")
@@ -116,6 +118,22 @@ cause_seen Ousted = all_seen (codes "ousted")
 
 last_seen : (o : Outcome) → AllByRecursion Word (last_words o)
 last_seen (Whole s) = tt
+last_seen (Failed failures.Source) = (
+  all_seen (codes "L1") (omega arith, (omega arith, tt)),
+  (
+    all_seen (codes "source")
+        (omega arith, (omega arith, (omega arith, (omega arith, (omega arith, (omega arith, tt)))))),
+    tt,
+  ),
+)
+last_seen (Failed failures.Memory) = (
+  all_seen (codes "L2") (omega arith, (omega arith, tt)),
+  (
+    all_seen (codes "memory")
+        (omega arith, (omega arith, (omega arith, (omega arith, (omega arith, (omega arith, tt)))))),
+    tt,
+  ),
+)
 last_seen (Cut c) = (all_seen (codes "cut") (omega arith, (omega arith, (omega arith, tt))), (cause_seen c, tt))
 
 escaped_word : (bs : List ℕ) → Word (escaped bs)
@@ -142,6 +160,8 @@ join_above w (x ∷ xs) v vs =
 front_of : (t m o b n g : List ℕ) (end : Outcome)
     → join_with_byte 32 (t ∷ m ∷ o ∷ b ∷ n ∷ g ∷ []) ++ cut_word end ≡ join_with_byte 32 (t ∷ m ∷ o ∷ b ∷ n ∷ g ∷ last_words end)
 front_of t m o b n g (Whole s) = append-nil (join_with_byte 32 (t ∷ m ∷ o ∷ b ∷ n ∷ g ∷ []))
+front_of t m o b n g (Failed failures.Source) = simp append_assoc
+front_of t m o b n g (Failed failures.Memory) = simp append_assoc
 front_of t m o b n g (Cut c) = simp append_assoc
 
 words_behind_seen : (a : Answered) → HasNumbers a
@@ -198,6 +218,13 @@ second_of [] = []
 second_of (a ∷ []) = []
 second_of (a ∷ b ∷ rest) = b
 
+abbrev first_of : List ℕ → ℕ
+first_of [] = 0
+first_of (b ∷ bs) = b
+
+abbrev first_of_second : List (List ℕ) → ℕ
+first_of_second ws = first_of (second_of ws)
+
 ends_differ : (o p : Outcome) → ((s : ℕ) → o ≡ Whole s → s < 2 ^ 16) → ((s : ℕ) → p ≡ Whole s → s < 2 ^ 16)
     → outcome_word o ≡ outcome_word p → last_words o ≡ last_words p → o ≡ p
 ends_differ (Whole s) (Whole t) small little e last =
@@ -205,6 +232,18 @@ ends_differ (Whole s) (Whole t) small little e last =
     ap Whole (decimal_injective s t (omega arith) (omega arith) e)
 ends_differ (Whole s) (Cut d) small little e last = cc
 ends_differ (Cut c) (Whole t) small little e last = cc
+ends_differ (Whole s) (Failed failures.Source) small little e last = cc
+ends_differ (Whole s) (Failed failures.Memory) small little e last = cc
+ends_differ (Failed failures.Source) (Whole t) small little e last = cc
+ends_differ (Failed failures.Memory) (Whole t) small little e last = cc
+ends_differ (Failed f) (Cut d) small little e last = let firsts : 53 ≡ 45 = ap first_of e in grind (arith, firsts)
+ends_differ (Cut c) (Failed g) small little e last = let firsts : 45 ≡ 53 = ap first_of e in grind (arith, firsts)
+ends_differ (Failed failures.Source) (Failed failures.Source) small little e last = refl
+ends_differ (Failed failures.Memory) (Failed failures.Memory) small little e last = refl
+ends_differ (Failed failures.Source) (Failed failures.Memory) small little e last =
+    let firsts : 115 ≡ 109 = ap first_of_second last in grind (arith, firsts)
+ends_differ (Failed failures.Memory) (Failed failures.Source) small little e last =
+    let firsts : 109 ≡ 115 = ap first_of_second last in grind (arith, firsts)
 ends_differ (Cut c) (Cut d) small little e last = ap Cut (causes_differ c d (ap second_of last))
 
 pub lines_tell_answers : LinesTellAnswers
@@ -268,10 +307,6 @@ peer_lines_are_lines p text (time, moment, is) =
     let rest = codes "peer" ∷ escaped p.name.now ∷ turn_word p.turn ∷ [] in
     let behind : AllByRecursion Word rest = (peer_seen, (escaped_word p.name.now, (turn_seen p.turn, tt))) in
     (time, join_with_byte 32 (time ∷ rest), moment, is, join_above time rest word behind, split_join time rest word behind)
-
-abbrev first_of : List ℕ → ℕ
-first_of [] = 0
-first_of (b ∷ bs) = b
 
 turns_differ : (t u : Turn) → turn_word t ≡ turn_word u → t ≡ u
 turns_differ LeftAlone LeftAlone e = refl

@@ -6,16 +6,19 @@ use Rattle.iiif_log.specs.Lines.{IsLineOf, cause_word, words_of}
 use Rattle.iiif_log.specs.Moments.{IsMomentText}
 use Rattle.iiif_log.specs.Waiting.{QueuedLine, Waiting, line, left_behind, lines_in, put_behind, told_next}
 use Rattle.iiif_log.specs.declared.answered.Answered.{Answered}
+use Rattle.iiif_log.specs.declared.answered.Failure.TheVariants as failures
 use Rattle.iiif_log.specs.declared.answered.Outcome.{Outcome}
-use Rattle.iiif_log.specs.declared.answered.Outcome.TheVariants.{Whole, Cut}
+use Rattle.iiif_log.specs.declared.answered.Outcome.TheVariants.{Whole, Failed, Cut}
 
 -- bytes that differ have words that differ
 abbrev pub EscapesDiffer : Type 0
 EscapesDiffer = (a b : List ℕ) → All (λ x. x < 256) a → All (λ x. x < 256) b → escaped a ≡ escaped b → a ≡ b
 
--- the words behind the target of an answer that was cut off
+-- the words behind the target of an answer that failed or was cut off
 abbrev pub last_words : Outcome → List (List ℕ)
 last_words (Whole status) = []
+last_words (Failed failures.Source) = codes "L1" ∷ codes "source" ∷ []
+last_words (Failed failures.Memory) = codes "L2" ∷ codes "memory" ∷ []
 last_words (Cut cause) = codes "cut" ∷ cause_word cause ∷ []
 
 -- the numbers of an answer are those of its type

@@ -6,12 +6,15 @@ use Rattle.iiif_log.specs.Moments.{IsMomentText}
 use Rattle.iiif_log.specs.declared.answered.Answered.{Answered}
 use Rattle.iiif_log.specs.declared.answered.CutCause.{CutCause}
 use Rattle.iiif_log.specs.declared.answered.CutCause.TheVariants.{Viewer, Slow, Rate, Source, Memory, Ousted}
+use Rattle.iiif_log.specs.declared.answered.Failure.{Failure}
+use Rattle.iiif_log.specs.declared.answered.Failure.TheVariants as failures
 use Rattle.iiif_log.specs.declared.answered.Outcome.{Outcome}
-use Rattle.iiif_log.specs.declared.answered.Outcome.TheVariants.{Whole, Cut}
+use Rattle.iiif_log.specs.declared.answered.Outcome.TheVariants.{Whole, Failed, Cut}
 
 -- the status, or that there is none to tell
 abbrev pub outcome_word : Outcome → List ℕ
 outcome_word (Whole status) = decimal status
+outcome_word (Failed failure) = codes "500"
 outcome_word (Cut cause) = codes "-"
 
 -- the word for a cause
@@ -23,9 +26,15 @@ cause_word Source = codes "source"
 cause_word Memory = codes "memory"
 cause_word Ousted = codes "ousted"
 
--- what stands behind the target of an answer that was cut off: that it was, and why
+-- the words for the cause of a 500
+abbrev pub failure_words : Failure → List ℕ
+failure_words failures.Source = codes "L1 source"
+failure_words failures.Memory = codes "L2 memory"
+
+-- what stands behind the target of an answer that failed or was cut off: why
 abbrev pub cut_word : Outcome → List ℕ
 cut_word (Whole status) = []
+cut_word (Failed failure) = codes " " ++ failure_words failure
 cut_word (Cut cause) = codes " cut " ++ cause_word cause
 
 -- The words of a line at this time: when, the method, the status, the bytes, the milliseconds, the target.

@@ -19,11 +19,22 @@ pub enum CutCause {
     Ousted,
 }
 
+/// Why an answer's status is 500, as the answer itself says.
+#[derive(Clone, Copy, Debug, PartialEq, Eq)]
+pub enum Failure {
+    /// A read of the image's file failed.
+    Source,
+    /// Memory was refused.
+    Memory,
+}
+
 /// How an answer ended.
 #[derive(Clone, Copy, PartialEq, Eq)]
 pub enum Outcome {
     /// It was sent whole, with this status of HTTP.
     Whole(u16),
+    /// It was sent whole, with the status 500, for this cause.
+    Failed(Failure),
     /// It was cut off, for this cause.
     Cut(CutCause),
 }

@@ -2,7 +2,7 @@
 //! writes them.
 #![tactic(auto)]
 
-pub use answered::{Answered, CutCause, Outcome};
+pub use answered::{Answered, CutCause, Failure, Outcome};
 pub use escape::push_escaped;
 pub use line::{line_bytes, lost_line_bytes};
 pub use log::{Log, write_lines};

@@ -1,9 +1,9 @@
 //! The line of an answer.
 
 ghost use Rattle.std.specs.Prelude.{◌≡◌, ◌++◌, ◌∷◌, [], IfOk, OnOk, string_bytes};
-ghost use Rattle.iiif_log.specs.Lines.{IsLineOf, cause_word, outcome_word, cut_word, lost_line};
+ghost use Rattle.iiif_log.specs.Lines.{IsLineOf, cause_word, outcome_word, cut_word, failure_words, lost_line};
 
-use crate::answered::{Answered, CutCause, Outcome};
+use crate::answered::{Answered, CutCause, Failure, Outcome};
 use crate::escape::push_escaped;
 use crate::moment::{NoMemory, push_moment};
 use std::alloc::Global;
@@ -18,6 +18,7 @@ fn push_outcome(text: &mut String, outcome: Outcome) -> Result<(), NoMemory>
 {
     match outcome {
         Outcome::Whole(status) => write!(text, "{status}"),
+        Outcome::Failed(_) => text.push_str("500"),
         Outcome::Cut(_) => text.push_str("-"),
     }
 }
@@ -36,12 +37,26 @@ fn cause_text(cause: CutCause) -> &'static str
     }
 }
 
-/// Writes that an answer was cut off and why, where it was, and the line's end.
+/// The words for the cause of a 500: those of the answer.
+fn failure_text(failure: Failure) -> &'static str
+    ensures { result.now ≡ failure_words failure }
+{
+    match failure {
+        Failure::Source => "L1 source",
+        Failure::Memory => "L2 memory",
+    }
+}
+
+/// Writes why an answer failed, or that it was cut off and why, where it did or was, and the line's end.
 fn push_end(text: &mut String, outcome: Outcome) -> Result<(), NoMemory>
     ensures { OnOk result (string_bytes text.new ≡ string_bytes text.old ++ (cut_word outcome ++ 10 ∷ [])) }
 {
     match outcome {
         Outcome::Whole(_) => text.push_str("\n"),
+        Outcome::Failed(failure) => {
+            let words = failure_text(failure);
+            write!(text, " {words}\n")
+        }
         Outcome::Cut(cause) => {
             let word = cause_text(cause);
             write!(text, " cut {word}\n")
@@ -50,8 +65,8 @@ fn push_end(text: &mut String, outcome: Outcome) -> Result<(), NoMemory>
 }
 
 /// The line of an answer, as `2026-11-23T11:42:05.123Z GET 200 65536 12 /iiif/a/full/max/0/default.tif`: when it was done with, the
-/// method, the status, the bytes that were written, the milliseconds that it took, the target; and `cut` and the cause where it was cut
-/// off, with `-` in the place of the status.
+/// method, the status, the bytes that were written, the milliseconds that it took, the target; and the cause of a 500 in the answer's own
+/// words, or `cut` and the cause where it was cut off, with `-` in the place of the status.
 pub fn line_bytes(alloc: Global, answered: &Answered<'_>) -> Result<Vec<u8>, NoMemory>
     ensures { IfOk result (λ bytes. IsLineOf answered.now bytes.items) }
 {

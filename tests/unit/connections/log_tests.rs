@@ -129,6 +129,22 @@ fn behind_moments(alloc: Global, log: &[u8]) -> Result<String, Fail> {
     Ok(lines)
 }
 
+/// An answer of the status 500.
+const FAILED: [Result<Sent, Cut>; 1] = [Ok(Sent {
+    status: 500,
+    bytes: 117,
+    held: 0,
+})];
+
+/// A connection to which no text that tells of the source was written.
+#[test]
+fn answer_of_500_that_tells_of_no_source_tells_of_memory(rt: HostRuntime) -> Result<(), Fail> {
+    let alloc = rt.alloc();
+    let lines = behind_moments(alloc, &log_of(&rt, alloc, b"/a", &FAILED)?)?;
+    assert!(rt; is_same(&lines.as_str(), &"GET 500 117 0 /a L2 memory\n"));
+    Ok(())
+}
+
 /// Three answers, of which the second was cut off by its viewer and the third for want of memory.
 const WHOLE_AND_CUT: [Result<Sent, Cut>; 3] = [
     Ok(Sent {

@@ -1,7 +1,7 @@
 //! Lines of answers. The instants were taken from `date -u -d @SECONDS +%FT%T`.
 
 use crate::fixtures::{is_same_text, is_unwanted};
-use iiif_log::{Answered, CutCause, Moment, Outcome, line_bytes, lost_line_bytes};
+use iiif_log::{Answered, CutCause, Failure, Moment, Outcome, line_bytes, lost_line_bytes};
 use std::alloc::Global;
 
 /// An answer by its instant in milliseconds, method, target, outcome, bytes and milliseconds, and its line.
@@ -87,6 +87,28 @@ static NO_CALL: Row = Row {
 #[test]
 fn answer_to_no_call_has_its_line(rt: HostRuntime) {
     assert!(rt; is_right(rt.alloc(), &NO_CALL));
+}
+
+static FAILED: [Row; 2] = [
+    Row {
+        outcome: Outcome::Failed(Failure::Source),
+        bytes: 117,
+        line: b"2026-11-23T11:42:05.123Z GET 500 117 12 /iiif/a/full/max/0/default.tif L1 source\n",
+        ..WHOLE
+    },
+    Row {
+        outcome: Outcome::Failed(Failure::Memory),
+        bytes: 117,
+        line: b"2026-11-23T11:42:05.123Z GET 500 117 12 /iiif/a/full/max/0/default.tif L2 memory\n",
+        ..WHOLE
+    },
+];
+
+#[test]
+fn failed_answer_says_why_in_its_own_words(rt: HostRuntime) {
+    for row in &FAILED {
+        assert!(rt; is_right(rt.alloc(), row));
+    }
 }
 
 /// Whether this is the line that tells of so many lost.

@@ -83,6 +83,44 @@ fn peer_that_resets_is_gone(rt: HostRuntime) {
     assert!(rt; matches!(found, Some((true, true))), "{found:?}");
 }
 
+/// Whether a connection ends with these eight bytes, of which a writer writes three behind others, and the last five in two texts.
+fn ends_with<R: Clock + Wait + AllocGlobal>(
+    rt: &R,
+    stream: TcpStream,
+    bytes: [u8; 8],
+) -> Option<bool> {
+    let pace = Pace::new(rt, Duration::from_millis(1_000)).ok()?;
+    let places = Places::new(rt.alloc(), 0).ok()?;
+    let generations = Generations::new(rt).ok()?;
+    let Visit { stream, place } = places.enter(rt, stream, IpAddr::V4(Ipv4Addr::LOCALHOST), 0)?;
+    let mut out = PacedWriter {
+        stream,
+        rt,
+        pace: &pace,
+        place: &place,
+        generation: Generation {
+            all: &generations,
+            number: 0,
+        },
+        patience: Duration::from_millis(60_000),
+        flow: Flow::new(ANY),
+    };
+    if out.put(b"L1 so").ok()? != 5 || out.put_both(b"ur", b"ce\n").ok()? != 5 {
+        return None;
+    }
+    Some(pace.ends_with(bytes))
+}
+
+#[test]
+fn last_bytes_of_several_writes_are_known(rt: HostRuntime) {
+    for (bytes, wanted) in [(*b" source\n", true), (*b" memory\n", false)] {
+        let Some((_near, far)) = connected(&rt) else {
+            return;
+        };
+        assert!(rt; is_same(&ends_with(&rt, far, bytes), &Some(wanted)));
+    }
+}
+
 /// How long a read of a silent peer's stream takes, which waits for 100 ms, once it was looked whether the peer is gone.
 fn read_behind_a_look<R: Clock + Wait + AllocGlobal>(
     rt: &R,
