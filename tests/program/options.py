@@ -431,6 +431,26 @@ def log_writes_a_line_for_each_answer(program, room):
     return got, [True, ""], command(program, "--log", "a=:sample")
 
 
+@shows("--log")
+def log_says_which_read_failed_where_and_why(program, room):
+    # The samples of the file begin at byte 174, and it has 100 bytes by then. One that is held is answered.
+    got = []
+    for hold in (0, 190):
+        path, statistics = sample_in(room, f"failing_{hold}"), free_port()
+        words = ["--log", "--hold", hold, "--stats-listen", f"127.0.0.1:{statistics}"]
+        with Server(program, ["a=" + path], words) as server:
+            os.truncate(path, 100)
+            asked(server.port, SAMPLE_TARGET)
+            wait_until(lambda: server.line())
+            server.said.seek(0)
+            lines = [re.sub(r"^\S+Z ", "", it) for it in server.said.read().decode().splitlines()]
+            got.append(["\n".join(lines), counter(page(statistics, "/metrics")[1], "iiif_read_failures_total")])
+        answer = rf"GET 500 \d+ \d+ {re.escape(SAMPLE_TARGET)} L1 source" if hold == 0 else rf"GET 200 \d+ \d+ {re.escape(SAMPLE_TARGET)}"
+        failed = f"read-failed {re.escape(path)} 174 shorter\n" if hold == 0 else ""
+        got[-1][0] = bool(re.fullmatch(failed + answer, got[-1][0])) or got[-1][0]
+    return got, [[True, 1], [True, 0]], command(program, "--log", "a=sample.tif")
+
+
 def record_of(program, path, words):
     """The lines of the record of a server that was asked for one image twice; none where there is no record."""
     with Server(program, ["a=:sample"], words) as server:

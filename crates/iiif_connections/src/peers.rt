@@ -97,6 +97,7 @@ impl<'a, R: Opens + Wait + Clock, J: System, N: Links<J, R>, T: Gate<R>> PeerCal
             &mut out,
         );
         passes.give_back(rt, self.node);
+        self.watcher.tell_failures(rt);
         drop(reader);
         let PacedWriter { stream, .. } = out;
         if pace.is_moved() {

@@ -65,16 +65,18 @@ fn service_of(is_wanted: bool, is_gone: bool) -> Service
     }
 }
 
-/// Joins the numbers of images that are served and that are left out, and of asks for other versions.
-fn image_metrics(images: Images, other_versions: u64) -> ImageMetrics
+/// Joins the numbers of images that are served and that are left out, of asks for other versions, and of reads that failed.
+fn image_metrics(images: Images, other_versions: u64, read_failures: u64) -> ImageMetrics
     ensures served { result.served ≡ images.served }
     ensures unfit { result.unfit ≡ images.unfit }
     ensures other_versions { result.other_versions ≡ other_versions }
+    ensures read_failures { result.read_failures ≡ read_failures }
 {
     ImageMetrics {
         served: images.served,
         unfit: images.unfit,
         other_versions,
+        read_failures,
     }
 }
 
@@ -97,7 +99,7 @@ impl<'a, R: Opens + Wait, J: System, N, T> Measure<R> for Statistics<'a, R, J, N
         Metrics {
             tiles: cache_metrics(tiles.book(rt), tiles.kept(rt)),
             sums: cache_metrics(sums.book(rt), sums.kept(rt)),
-            images: image_metrics(self.images, others),
+            images: image_metrics(self.images, others, self.watcher.failures.count()),
             held: held_metrics(self.images.held),
             counts: self.watcher.tally.counts(rt),
             kept: self.node.most_kept(rt),
@@ -181,6 +183,7 @@ impl<'a, R: Wait> Measure<R> for StartStatistics<'a> {
                 served: 0,
                 unfit: 0,
                 other_versions: others,
+                read_failures: self.watcher.failures.count(),
             },
             held: HeldMetrics {
                 bytes: 0,

@@ -46,7 +46,8 @@ pub enum Departure {
 
 /// The times of a connection: its start, the milliseconds until something was last read and last written, whether something was written
 /// since the last poll, whether nothing was read since then or since the start, the bytes of the last body, the time-out of a head as a
-/// whole, the last eight bytes that were written, whether its reader was found to be too slow, stalled or without its place, and whether the input was ended for another generation.
+/// whole, whether its reader was found to be too slow, stalled or without its place, whether the input was ended for another generation,
+/// and the last eight bytes that were written.
 #[derive(Drop)]
 pub struct Pace {
     start: Instant,

@@ -6,3 +6,4 @@ pub mod PeerLines
 pub mod Waiting
 pub mod VersionLines
 pub mod RefusedLines
+pub mod FailedLines

@@ -1,9 +1,10 @@
-//! A line for each answer and for each turn of a link to another node, and the queue over which lines come to a thread of their own that
-//! writes them.
+//! A line for each answer, each read of a file that failed and each turn of a link to another node, and the queue over which lines come to
+//! a thread of their own that writes them.
 #![tactic(auto)]
 
 pub use answered::{Answered, CutCause, Failure, Outcome};
 pub use escape::push_escaped;
+pub use failed_read::{FailedRead, failed_line_bytes};
 pub use line::{line_bytes, lost_line_bytes};
 pub use log::{Log, write_lines};
 pub use moment::{Moment, NoMemory, push_moment};
@@ -14,6 +15,7 @@ pub use refused_image::{RefusedImage, refused_line_bytes};
 
 pub mod answered;
 pub mod escape;
+pub mod failed_read;
 pub mod laws;
 pub mod line;
 pub mod log;

@@ -8,6 +8,7 @@ ghost use Rattle.iiif_io.specs.Counting.{capped};
 ghost use Rattle.iiif_log.specs.Waiting.{line_view, lines_in};
 
 use crate::answered::Answered;
+use crate::failed_read::{FailedRead, failed_line_bytes};
 use crate::line::{line_bytes, lost_line_bytes};
 use crate::moment::NoMemory;
 use crate::other_version::{OtherVersion, version_line_bytes};
@@ -42,6 +43,11 @@ impl Log {
     /// Puts the line of an answer behind the others. Where there is no room or no memory for it, it is lost, which is counted.
     pub fn tell<R: Wait>(&self, rt: &R, answered: &Answered<'_>) {
         self.put(rt, line_bytes(self.alloc, answered));
+    }
+
+    /// Puts the line of a read that failed behind the others, as [`Log::tell`] does.
+    pub fn tell_failed_read<R: Wait>(&self, rt: &R, told: &FailedRead<'_>) {
+        self.put(rt, failed_line_bytes(self.alloc, told));
     }
 
     /// Puts the line of a link to another node behind the others, as [`Log::tell`] does.

@@ -67,6 +67,7 @@ image_families front i =
     ∷ single (front ++ codes "images_unfit") (codes "Images that can't be served, and are left out.") Gauge i.unfit
     ∷ single (front ++ codes "images_other_versions_total")
     (codes "Other nodes' asks for another version of an image, once a node and an image.") Counter i.other_versions
+    ∷ single (front ++ codes "read_failures_total") (codes "Reads of images' files that failed.") Counter i.read_failures
     ∷ []
 
 -- the images whose files are held in memory, under names with this front

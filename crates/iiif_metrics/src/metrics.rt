@@ -34,6 +34,8 @@ pub struct ImageMetrics {
     pub unfit: u64,
     /// How often another node asked for another version of one of them, each node and image once of a list.
     pub other_versions: u64,
+    /// How many reads of their files failed.
+    pub read_failures: u64,
 }
 
 /// The counts of a server since it was started, and of what it holds.

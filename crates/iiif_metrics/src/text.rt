@@ -199,7 +199,7 @@ fn held_rows(held: &HeldMetrics) -> [Row<'static>; 2]
 }
 
 /// Counts the images that the start named.
-fn image_rows(images: &ImageMetrics) -> [Row<'static>; 3]
+fn image_rows(images: &ImageMetrics) -> [Row<'static>; 4]
     ensures { (front : List ℕ) → map (row_family front) result ≡ image_families front images.now }
 {
     [
@@ -213,6 +213,11 @@ fn image_rows(images: &ImageMetrics) -> [Row<'static>; 3]
             "images_other_versions_total",
             "Other nodes' asks for another version of an image, once a node and an image.",
             images.other_versions,
+        ),
+        counter(
+            "read_failures_total",
+            "Reads of images' files that failed.",
+            images.read_failures,
         ),
     ]
 }

@@ -1,3 +1,4 @@
+pub mod Failures
 pub mod Files
 pub mod Kept
 pub mod Memory

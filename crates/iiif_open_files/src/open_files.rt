@@ -8,6 +8,7 @@ ghost use Rattle.iiif_open_files.specs.Kept.{size_of};
 ghost use Rattle.iiif_open_files.specs.Rows.{room_of, AreAmong};
 
 use crate::file_cache::{FileCache, Opening};
+use crate::read_failures::{FailureReason, ReadFailures};
 use crate::row_cache::RowCache;
 use crate::wide_rows::WideRows;
 use crate::widening::FEW;
@@ -26,17 +27,28 @@ pub struct OpenFiles<R: Opens> {
     many: Mutex<RowCache<R, 16, 1_048_576>>,
     few: Mutex<RowCache<R, 256, 65_536>>,
     numbers: AtomicU64,
+    failures: Option<Arc<ReadFailures>>,
     alloc: Global,
 }
 
 impl<R: Opens> OpenFiles<R> {
     /// No file is open, and so many are kept.
     pub fn new(alloc: Global, most: NonZeroUsize) -> Result<OpenFiles<R>, AllocError> {
+        OpenFiles::noting(alloc, most, None)
+    }
+
+    /// No file is open, and so many are kept. Reads that fail are noted, where there is something to note them in.
+    pub fn noting(
+        alloc: Global,
+        most: NonZeroUsize,
+        failures: Option<Arc<ReadFailures>>,
+    ) -> Result<OpenFiles<R>, AllocError> {
         Ok(OpenFiles {
             files: Mutex::new(FileCache::new(alloc, most)?),
             many: Mutex::new(RowCache::new(alloc)),
             few: Mutex::new(RowCache::new(alloc)),
             numbers: AtomicU64::new(0),
+            failures,
             alloc,
         })
     }
@@ -69,6 +81,13 @@ impl<R: Opens + Wait> OpenFiles<R> {
             Some(opening)
         } else {
             None
+        }
+    }
+
+    /// Notes a read of the file of a path that failed.
+    pub(crate) fn note(&self, rt: &R, path: &Arc<String>, place: u64, reason: FailureReason) {
+        if let Some(failures) = &self.failures {
+            failures.note(rt, path, place, reason);
         }
     }
 

@@ -10,8 +10,10 @@ ghost use Rattle.iiif_source.specs.Runs.{AreIn, BeginsAt, HoldsRuns};
 use crate::file_cache::Opening;
 use crate::known::Known;
 use crate::open_files::OpenFiles;
+use crate::read_failures::FailureReason;
 use iiif_source::{OpenFile, Opened, Opens, ReadFault, Runs, Source};
 use std::io;
+use std::io::Error;
 use std::marker::Model;
 use std::sync::{Arc, Wait};
 
@@ -63,9 +65,54 @@ impl<R: Opens + Wait> PathSource<R> {
         self.files.find(rt, self.number, self.path.as_str())
     }
 
-    /// The file, opened again, or the cause of the fault of a read: it is gone, it can't be opened, or it isn't what it was. The
-    /// opening has a number of its own, so nothing that was read ahead of an earlier one is used for it.
-    fn reopen(&self, rt: &R) -> Result<Opening<R>, u8>
+    /// Notes that a read which began at this place failed.
+    fn note(&self, rt: &R, place: u64, reason: FailureReason) {
+        self.files.note(rt, &self.path, place, reason);
+    }
+
+    /// Finds why a read of an open file failed: the file has changed by now, or else the system refused the read.
+    fn reason_of(&self, rt: &R, opening: &Opening<R>, cause: u8) -> FailureReason {
+        if cause == ReadFault::ENDED {
+            return FailureReason::Shorter;
+        }
+        match opening.file.metadata(rt) {
+            Ok(now) if self.known.change(&Known::new(&now)).is_some() => FailureReason::Changed,
+            _ => FailureReason::Refused,
+        }
+    }
+
+    /// Notes a read of an open file, where it failed.
+    fn note_read(&self, rt: &R, opening: &Opening<R>, read: &Result<(), ReadFault>) {
+        if let Err(fault) = read {
+            let reason = self.reason_of(rt, opening, fault.cause);
+            self.note(rt, fault.place, reason);
+        }
+    }
+
+    /// Notes a read that began at this place, since the file isn't what it was, and returns the cause.
+    fn note_change(&self, rt: &R, place: u64, cause: u8) -> u8
+        ensures { result ≡ cause }
+    {
+        let reason = if cause == ReadFault::ENDED {
+            FailureReason::Shorter
+        } else {
+            FailureReason::Changed
+        };
+        self.note(rt, place, reason);
+        cause
+    }
+
+    /// Notes a read that began at this place, since the file couldn't be opened, and returns the cause.
+    fn note_unopened(&self, rt: &R, place: u64, error: &Error) -> u8
+        ensures { result ≡ failed }
+    {
+        self.note(rt, place, FailureReason::new(error));
+        ReadFault::FAILED
+    }
+
+    /// The file, opened again for a read from a place on, or the cause of its fault: it is gone, it can't be opened, or it isn't what it
+    /// was. The opening has a number of its own, so nothing that was read ahead of an earlier one is used for it.
+    fn reopen(&self, rt: &R, place: u64) -> Result<Opening<R>, u8>
         ensures path { IfOk result (λ o. string_bytes (arc_value o.file.path) ≡ self.now.path) }
         ensures length { IfOk result (λ o. Says R.tells o.file.handle (λ found. metadata_len found ≡ self.now.len)) }
         ensures cause { IfErr result (λ cause. IsTrue (cause == failed || cause == ended)) }
@@ -73,18 +120,20 @@ impl<R: Opens + Wait> PathSource<R> {
         let Ok(path) = self.path.clone() else {
             return Err(ReadFault::FAILED);
         };
-        let Ok(file) = OpenFile::open(rt, path) else {
-            return Err(ReadFault::FAILED);
+        let file = match OpenFile::open(rt, path) {
+            Ok(file) => file,
+            Err(error) => return Err(self.note_unopened(rt, place, &error)),
         };
-        let Ok(now) = file.metadata(rt) else {
-            return Err(ReadFault::FAILED);
+        let now = match file.metadata(rt) {
+            Ok(now) => now,
+            Err(error) => return Err(self.note_unopened(rt, place, &error)),
         };
         match self.known.change(&Known::new(&now)) {
             None => Ok(Opening {
                 number: self.files.take_number(),
                 file,
             }),
-            Some(cause) => Err(cause),
+            Some(cause) => Err(self.note_change(rt, place, cause)),
         }
     }
 
@@ -185,13 +234,16 @@ impl<R: Opens + Wait> Source<R> for PathSource<R> {
 
     fn read_at(&self, rt: &R, at: u64, buffer: &mut [u8]) -> Result<(), ReadFault> {
         if let Some(opening) = self.find_kept(rt) {
-            return self.fill(rt, &opening, at, buffer);
+            let read = self.fill(rt, &opening, at, buffer);
+            self.note_read(rt, &opening, &read);
+            return read;
         }
-        let opening = match self.reopen(rt) {
+        let opening = match self.reopen(rt, at) {
             Ok(opening) => opening,
             Err(cause) => return Err(ReadFault { place: at, cause }),
         };
         let read = self.fill(rt, &opening, at, buffer);
+        self.note_read(rt, &opening, &read);
         self.files.keep(rt, self.number, opening);
         read
     }
@@ -199,9 +251,11 @@ impl<R: Opens + Wait> Source<R> for PathSource<R> {
     #[tactic(auto, using(iiif_source::proofs::Faults::first_begins))]
     fn read_runs(&self, rt: &R, runs: Runs, buffer: &mut [u8]) -> Result<(), ReadFault> {
         if let Some(opening) = self.find_kept(rt) {
-            return self.read_runs_of(rt, &opening, runs, buffer);
+            let read = self.read_runs_of(rt, &opening, runs, buffer);
+            self.note_read(rt, &opening, &read);
+            return read;
         }
-        let opening = match self.reopen(rt) {
+        let opening = match self.reopen(rt, runs.at) {
             Ok(opening) => opening,
             Err(cause) => {
                 let place = runs.at;
@@ -209,6 +263,7 @@ impl<R: Opens + Wait> Source<R> for PathSource<R> {
             }
         };
         let read = self.read_runs_of(rt, &opening, runs, buffer);
+        self.note_read(rt, &opening, &read);
         self.files.keep(rt, self.number, opening);
         read
     }

@@ -58,7 +58,7 @@ pub(crate) fn open_for_one<'a, R: Opens + Wait, E: Write>(
     requires { refusal_of (settings_in options.now) ≡ None }
     ensures config { IfOk result (λ m. m.config ≡ settings_in options.now) }
 {
-    let mut made = open_node(rt, alloc, options, err)?;
+    let mut made = open_node(rt, alloc, options, None, err)?;
     if !one.cache_given && !target_repeats(alloc, &made, one.target) {
         made.room = Room {
             bytes: 0,

@@ -27,7 +27,7 @@ use iiif_io::Outlet;
 use iiif_keys::{PARTS, System};
 use iiif_listener::{Inbox, OpenConnections};
 use iiif_log::write_lines;
-use iiif_open_files::{Opens, Texts};
+use iiif_open_files::{Opens, ReadFailures, Texts};
 use iiif_peer_link::Reaches;
 use iiif_peer_versions::FileVersions;
 use iiif_services::{
@@ -39,8 +39,8 @@ use std::io::Write;
 use std::marker::Brand;
 use std::net::{Net, TcpListener, TcpStream};
 use std::rt::Clock;
-use std::sync::Wait;
 use std::sync::ledger::Blank;
+use std::sync::{Arc, Wait};
 use std::thread;
 use std::thread::Threads;
 use std::time::Duration;
@@ -412,7 +412,7 @@ where
             return tell_unstarted(server, status, said);
         }
     }
-    match open_versioned(rt, alloc, &options, &mut said) {
+    match open_versioned(rt, alloc, &options, &server.watcher.failures, &mut said) {
         Ok((made, versions)) => serve_options(server, &options, made, &versions, (number, said)),
         Err(stop) => {
             let status = stop.report(&mut said);
@@ -427,12 +427,13 @@ fn open_versioned<'a, R: Opens + Wait>(
     rt: &R,
     alloc: Global,
     options: &Options<'a>,
+    failures: &Arc<ReadFailures>,
     said: &mut Vec<u8>,
 ) -> Result<(NodeConfig<R>, Option<FileVersions>), Stop<'a>>
     requires { refusal_of (settings_in options.now) ≡ None }
 {
     let before = versions_for(rt, alloc, options, None)?;
-    let made = open_node(rt, alloc, options, said)?;
+    let made = open_node(rt, alloc, options, Some(failures), said)?;
     let versions = versions_for(rt, alloc, options, before.as_ref())?;
     Ok((made, versions))
 }

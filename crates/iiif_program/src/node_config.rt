@@ -7,14 +7,14 @@ ghost use Rattle.iiif_program.specs.Lines.{settings_in};
 use crate::settings::config;
 use iiif_command_line::{Mode, Options};
 use iiif_connections::{Catalogue, Config, Nodes, Room, Times, Watcher};
-use iiif_open_files::Opens;
+use iiif_open_files::{Opens, ReadFailures};
 use iiif_peer_versions::FileVersions;
 use iiif_start::{
     Held, Holding, Images, Opening, Stop, Stored, open_images, read_versions, report_unfit,
 };
 use std::alloc::Global;
 use std::io::Write;
-use std::sync::Wait;
+use std::sync::{Arc, Wait};
 
 /// The parts of a node: its settings, its images, and the room of each group's cache; and how many images were left out.
 #[derive(Drop)]
@@ -25,11 +25,13 @@ pub struct NodeConfig<R: Opens + Wait> {
     pub unfit: u64,
 }
 
-/// Makes the parts of the options' node: the images are opened. Of those that are left out it is said why they can't be served.
+/// Makes the parts of the options' node: the images are opened, and reads of them that fail are noted, where there is something to note them
+/// in. Of those that are left out it is said why they can't be served.
 pub(crate) fn open_node<'a, R: Opens + Wait, E: Write>(
     rt: &R,
     alloc: Global,
     options: &Options<'a>,
+    failures: Option<&Arc<ReadFailures>>,
     err: &mut E,
 ) -> Result<NodeConfig<R>, Stop<'a>>
     requires { refusal_of (settings_in options.now) ≡ None }
@@ -45,6 +47,7 @@ pub(crate) fn open_node<'a, R: Opens + Wait, E: Write>(
             bag: options.bag,
         },
         skip_unfit: options.skip_unfit,
+        failures,
     };
     let opened = open_images(rt, alloc, &options.images, opening)?;
     // Where that can't be written, the others are served all the same.

@@ -285,7 +285,7 @@ where
     R: Opens + Wait,
     O: Outlet,
 {
-    let files = share_files(alloc, options.open_files)?;
+    let files = share_files(alloc, options.open_files, None)?;
     let holding = Holding {
         bytes: options.hold,
         bag: options.bag,

@@ -22,7 +22,7 @@ use clap::ArgMatches;
 use iiif_command_line::LineFault;
 use iiif_fixity::{HoldFault, hold};
 use iiif_image_list::{FolderImage, name_of};
-use iiif_open_files::{OpenFiles, Opens, PathSource, Texts};
+use iiif_open_files::{OpenFiles, Opens, PathSource, ReadFailures, Texts};
 use iiif_source::{MemSource, OpenFile, Opened, ReadFault, Source};
 use iiif_tiff_read::{Layout, OpenFault, open};
 use iiif_tile_group::Catalogue;
@@ -133,12 +133,28 @@ fn unread_folder(error: &Error) -> LineFault {
     }
 }
 
-/// Makes the cache in which so many of the images' files stay open.
+/// Shares what reads that fail are noted in, where there is something.
+fn share_failures<'a>(
+    failures: Option<&Arc<ReadFailures>>,
+) -> Result<Option<Arc<ReadFailures>>, Stop<'a>> {
+    let Some(failures) = failures else {
+        return Ok(None);
+    };
+    match failures.clone() {
+        Ok(failures) => Ok(Some(failures)),
+        Err(_) => Err(Stop::Memory),
+    }
+}
+
+/// Makes the cache in which so many of the images' files stay open, and whose failed reads are noted, where there is something to note them
+/// in.
 pub(crate) fn share_files<'a, R: Opens>(
     alloc: Global,
     most: NonZeroUsize,
+    failures: Option<&Arc<ReadFailures>>,
 ) -> Result<Arc<OpenFiles<R>>, Stop<'a>> {
-    let Ok(files) = OpenFiles::new(alloc, most) else {
+    let failures = share_failures(failures)?;
+    let Ok(files) = OpenFiles::noting(alloc, most, failures) else {
         return Err(Stop::Memory);
     };
     match Arc::new(alloc, files) {
@@ -395,12 +411,14 @@ impl<'a, R: Opens + Wait> OpenedImages<'a, R> {
     }
 }
 
-/// How images are opened: how many of their files stay open, which are held in memory, and whether those that can't be served are left out.
+/// How images are opened: how many of their files stay open, which are held in memory, whether those that can't be served are left out, and
+/// what reads that fail are noted in.
 #[derive(Clone, Copy)]
 pub struct Opening<'m> {
     pub open_files: NonZeroUsize,
     pub holding: Holding<'m>,
     pub skip_unfit: bool,
+    pub failures: Option<&'m Arc<ReadFailures>>,
 }
 
 /// Adds an image to a catalogue, under its name.
@@ -496,7 +514,7 @@ where
     ensures all { opening.entry.skip_unfit ≡ false → IfOk result (λ o. o.served.items ≡ images.now) }
     ensures some { 0 < length images.now → IfOk result (λ o. 0 < length o.served.items) }
 {
-    let files = share_files(alloc, opening.open_files)?;
+    let files = share_files(alloc, opening.open_files, opening.failures)?;
     let mut opened = OpenedImages::new(alloc);
     for image in images {
         open_next(rt, alloc, &files, *image, opening, &mut opened)?;

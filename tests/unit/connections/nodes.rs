@@ -347,6 +347,7 @@ where
             bag: None,
         },
         skip_unfit: false,
+        failures: Some(&stage.watcher.failures),
     };
     let catalogue = open_images(rt, alloc, scene.images, opening)
         .ok()?

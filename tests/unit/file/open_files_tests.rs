@@ -5,9 +5,11 @@ use crate::file::steps::{
     Ask, Bytes, Change, Outcome, Shared, Step, both_answer, open_files, play, run,
 };
 use crate::fixtures::is_same;
-use iiif_open_files::Known;
-use iiif_source::ReadFault;
+use iiif_open_files::{FailureReason, Known, OpenFiles, PathSource, ReadFailures};
+use iiif_source::{ReadFault, Source};
 use std::fs;
+use std::num::NonZeroUsize;
+use std::sync::Arc;
 use std::test::Fail;
 
 const FIVE: &[Step] = &[
@@ -51,6 +53,45 @@ const FIVE_ARE_REMOVED: &[Step] = &[
 ];
 
 const AGAIN: &[(u32, &[Step])] = &[(1, FIVE), (3, FIVE_ARE_READ), (1, FIVE_ARE_REMOVED)];
+
+/// The files of sources whose reads fail, of which the last stays open, and why they do.
+static FAILING: [(&str, FailureReason); 3] = [
+    ("open_files_failing_gone", FailureReason::Missing),
+    ("open_files_failing_cut", FailureReason::Shorter),
+    ("open_files_failing_written", FailureReason::Changed),
+];
+
+#[test]
+fn failed_reads_are_noted_with_file_place_and_reason(rt: HostRuntime) -> Result<(), Fail> {
+    let alloc = rt.alloc();
+    let failures = Arc::new(alloc, ReadFailures::new(alloc))?;
+    let most = NonZeroUsize::new(1).ok_or("no room")?;
+    let files: OpenFiles<HostRuntime> = OpenFiles::noting(alloc, most, Some(failures.clone()?))?;
+    let files = Arc::new(alloc, files)?;
+    let mut sources = Vec::new(alloc);
+    for (path, _) in &FAILING {
+        fs::write(&rt, *path, [1u8, 2, 3].as_slice())?;
+        let path = String::from_str(alloc, *path)?;
+        sources.push(PathSource::open(&rt, files.clone()?, path)?)?;
+    }
+    fs::remove_file(&rt, FAILING[0].0)?;
+    fs::write(&rt, FAILING[1].0, [1u8].as_slice())?;
+    fs::write(&rt, FAILING[2].0, [4u8, 5, 6, 7].as_slice())?;
+    let mut two = [0u8; 2];
+    for source in &sources {
+        assert!(rt; source.read_at(&rt, 1, &mut two).is_err());
+    }
+    for (path, reason) in &FAILING {
+        let failure = failures.take(&rt).ok_or("none waits")?;
+        assert!(rt;
+            is_same(&failure.path.as_str(), path)
+                && is_same(&failure.place, &1)
+                && is_same(&failure.reason, reason)
+        );
+    }
+    assert!(rt; failures.take(&rt).is_none() && is_same(&failures.count(), &3));
+    Ok(())
+}
 
 const NOWHERE: &[Step] = &[Step::Nowhere("open_files_nowhere"), Step::Kept(0)];
 

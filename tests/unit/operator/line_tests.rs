@@ -1,7 +1,10 @@
 //! Lines of answers. The instants were taken from `date -u -d @SECONDS +%FT%T`.
 
 use crate::fixtures::{is_same_text, is_unwanted};
-use iiif_log::{Answered, CutCause, Failure, Moment, Outcome, line_bytes, lost_line_bytes};
+use iiif_log::{
+    Answered, CutCause, FailedRead, Failure, Moment, Outcome, failed_line_bytes, line_bytes,
+    lost_line_bytes,
+};
 use std::alloc::Global;
 
 /// An answer by its instant in milliseconds, method, target, outcome, bytes and milliseconds, and its line.
@@ -108,6 +111,21 @@ static FAILED: [Row; 2] = [
 fn failed_answer_says_why_in_its_own_words(rt: HostRuntime) {
     for row in &FAILED {
         assert!(rt; is_right(rt.alloc(), row));
+    }
+}
+
+#[test]
+fn failed_read_has_its_line(rt: HostRuntime) {
+    let told = FailedRead {
+        at: Moment::of_millis(1_795_434_125_123),
+        path: b"/srv/a b.tif",
+        place: 18_446_744_073_709_551_615,
+        reason: b"too-many-files",
+    };
+    let wanted = b"2026-11-23T11:42:05.123Z read-failed /srv/a\\x20b.tif 18446744073709551615 too-many-files\n";
+    match failed_line_bytes(rt.alloc(), &told) {
+        Ok(line) => assert!(rt; is_same_text(line.as_slice(), wanted.as_slice())),
+        Err(fault) => assert!(rt; is_unwanted(&fault)),
     }
 }
 

@@ -84,6 +84,7 @@ fn metrics() -> Metrics {
             served: 17,
             unfit: 18,
             other_versions: 19,
+            read_failures: 20,
         },
         held: HeldMetrics {
             bytes: 13,
@@ -165,6 +166,9 @@ iiif_images_unfit 18
 # HELP iiif_images_other_versions_total Other nodes' asks for another version of an image, once a node and an image.
 # TYPE iiif_images_other_versions_total counter
 iiif_images_other_versions_total 19
+# HELP iiif_read_failures_total Reads of images' files that failed.
+# TYPE iiif_read_failures_total counter
+iiif_read_failures_total 20
 # HELP iiif_held_bytes Bytes of the images' files that are held in memory.
 # TYPE iiif_held_bytes gauge
 iiif_held_bytes 13
