@@ -103,6 +103,8 @@ impl<'a, R: Opens + Wait, J: System, N, T> Measure<R> for Statistics<'a, R, J, N
             held: held_metrics(self.images.held),
             counts: self.watcher.tally.counts(rt),
             kept: self.node.most_kept(rt),
+            lost_lines: self.watcher.lost_lines(),
+            started: self.watcher.started.millis / 1_000,
             times: self.watcher.tally.times(rt),
         }
     }
@@ -192,6 +194,8 @@ impl<'a, R: Wait> Measure<R> for StartStatistics<'a> {
             counts: self.watcher.tally.counts(rt),
             times: self.watcher.tally.times(rt),
             kept: 0,
+            lost_lines: self.watcher.lost_lines(),
+            started: self.watcher.started.millis / 1_000,
         }
     }
 

@@ -1,5 +1,5 @@
 -- Lines that wait to be written, and what of them is lost.
-use Rattle.std.specs.Prelude.{ℕ, zero, suc, ◌==◌, ◌+◌, Bool, true, false, nat_lt, List, [], ◌∷◌, ◌++◌, length, if◌then◌else◌}
+use Rattle.std.specs.Prelude.{ℕ, zero, suc, ◌==◌, ◌+◌, Bool, true, false, nat_le, nat_lt, List, [], ◌∷◌, ◌++◌, length, if◌then◌else◌}
 use Rattle.iiif_io.specs.Counting.{capped}
 use Rattle.iiif_log.specs.declared.queue.Line.{Line}
 use Rattle.iiif_log.specs.declared.queue.Taken.{Taken}
@@ -31,6 +31,10 @@ most = 1024
 
 abbrev pub none_waits : Waiting
 none_waits = record { lines = []; lost = 0; is_open = true }
+
+-- there is no room for another line
+abbrev pub is_full : Waiting → Bool
+is_full w = nat_le most (length w.lines)
 
 -- one more is lost
 abbrev pub lost_behind : Waiting → Waiting

@@ -17,16 +17,18 @@ use crate::queue::{Line, Queue, Taken};
 use crate::refused_image::{RefusedImage, refused_line_bytes};
 use iiif_io::{Outlet, send};
 use std::alloc::Global;
+use std::sync::atomic::{AtomicU64, Ordering};
 use std::sync::{Condvar, Mutex, Wait};
 
-/// A log: a queue under a lock, as [`Queue`] says, who waits for its next line, and whether somebody writes its lines. Whoever puts a line
-/// waits for that lock alone, which nobody holds while a line is written.
+/// A log: a queue under a lock, as [`Queue`] says, who waits for its next line, whether somebody writes its lines and could write the last
+/// one, and how many were lost. Whoever puts a line waits for that lock alone, which nobody holds while a line is written.
 #[derive(Drop)]
 pub struct Log {
     alloc: Global,
     queue: Mutex<Queue>,
     more: Condvar,
     is_written: Mutex<bool>,
+    lost: AtomicU64,
 }
 
 impl Log {
@@ -37,6 +39,7 @@ impl Log {
             queue: Mutex::new(Queue::new(alloc)?),
             more: Condvar::new(),
             is_written: Mutex::new(false),
+            lost: AtomicU64::new(0),
         })
     }
 
@@ -65,18 +68,43 @@ impl Log {
         self.put(rt, refused_line_bytes(self.alloc, told));
     }
 
-    /// Puts a line behind the others, or counts one that couldn't be made.
+    /// Puts a line behind the others, or counts one that couldn't be made, and wakes who writes.
     fn put<R: Wait>(&self, rt: &R, line: Result<Vec<u8>, NoMemory>) {
-        match line {
-            Ok(text) => self.queue.lock(rt).put(text),
-            Err(_) => self.queue.lock(rt).lose(),
-        }
+        self.put_behind(rt, line);
         self.more.notify_one();
     }
 
-    /// Whether somebody writes its lines now.
+    /// Puts a line behind the others, or counts one that couldn't be made.
+    fn put_behind<R: Wait>(&self, rt: &R, line: Result<Vec<u8>, NoMemory>) {
+        let mut queue = self.queue.lock(rt);
+        if queue.is_full() || line.is_err() {
+            self.count_lost();
+        }
+        match line {
+            Ok(text) => queue.put(text),
+            Err(_) => queue.lose(),
+        }
+    }
+
+    /// Whether somebody writes its lines now and could write the last one, and there is room for the next.
     pub fn is_written<R: Wait>(&self, rt: &R) -> bool {
-        *self.is_written.lock(rt)
+        let is_written = *self.is_written.lock(rt);
+        is_written && !self.queue.lock(rt).is_full()
+    }
+
+    /// Notes whether its lines can be written.
+    fn note_written<R: Wait>(&self, rt: &R, is_written: bool) {
+        *self.is_written.lock(rt) = is_written;
+    }
+
+    /// Counts a line that was lost.
+    fn count_lost(&self) {
+        self.lost.fetch_add(1, Ordering::SeqCst);
+    }
+
+    /// Returns how many lines were lost so far: there was no room or no memory for them, or they couldn't be written.
+    pub fn lost(&self) -> u64 {
+        self.lost.load(Ordering::SeqCst)
     }
 
     /// The next line, for which it waits. None once the log is closed and all lines are taken.
@@ -146,14 +174,19 @@ pub fn write_line<W: Outlet>(
 /// Writes the lines of a log as they come, until it is closed. Where the writer fails, the lines that it didn't take are lost, which the
 /// next that is written tells.
 pub fn write_lines<R: Wait, W: Outlet>(rt: &R, alloc: Global, log: &Log, out: &mut W) {
-    *log.is_written.lock(rt) = true;
+    log.note_written(rt, true);
     let mut unsaid = 0;
     for _ in rt.forever() {
         let Some(line) = log.next(rt) else {
-            *log.is_written.lock(rt) = false;
+            log.note_written(rt, false);
             return;
         };
-        unsaid = match write_line(alloc, out, unsaid, &line) {
+        let written = write_line(alloc, out, unsaid, &line);
+        log.note_written(rt, written.is_ok());
+        if written.is_err() && !line.text.is_empty() {
+            log.count_lost();
+        }
+        unsaid = match written {
             Ok(()) => 0,
             Err(lost) => lost,
         };

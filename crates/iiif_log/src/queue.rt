@@ -1,7 +1,7 @@
 //! Lines that wait to be written.
 
 ghost use Rattle.std.specs.Prelude.{◌≡◌, IfOk};
-ghost use Rattle.iiif_log.specs.Waiting.{none_waits, put_behind, told_next, lost_behind, left_behind, closed_to_more, taken_view};
+ghost use Rattle.iiif_log.specs.Waiting.{is_full, none_waits, put_behind, told_next, lost_behind, left_behind, closed_to_more, taken_view};
 
 use crate::moment::NoMemory;
 use std::alloc::Global;
@@ -61,6 +61,13 @@ impl Queue {
             lost: 0,
             is_open: true,
         })
+    }
+
+    /// Whether so many lines wait that the next is lost.
+    pub fn is_full(&self) -> bool
+        ensures { result ≡ is_full self.now }
+    {
+        self.lines.len() >= MOST
     }
 
     /// Puts a line behind the others. Where 1,024 wait it is lost, which is counted.

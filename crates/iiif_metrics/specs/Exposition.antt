@@ -2,10 +2,10 @@
 -- for each sample.
 use Rattle.std.specs.Prelude.{ℕ, List, [], ◌∷◌, ◌++◌, codes, decimal, map, slice_index}
 use Rattle.std.specs.List.{flat_map}
-use Rattle.iiif_metrics.specs.declared.counts.Counts.{Counts}
 use Rattle.iiif_metrics.specs.declared.metrics.CacheMetrics.{CacheMetrics}
 use Rattle.iiif_metrics.specs.declared.metrics.HeldMetrics.{HeldMetrics}
 use Rattle.iiif_metrics.specs.declared.metrics.ImageMetrics.{ImageMetrics}
+use Rattle.iiif_metrics.specs.declared.metrics.Metrics.{Metrics}
 use Rattle.iiif_metrics.specs.declared.text.MetricKind.{MetricKind}
 use Rattle.iiif_metrics.specs.declared.text.MetricKind.TheVariants.{Counter, Gauge, Histogram}
 use Rattle.iiif_metrics.specs.declared.text.Row.{Row}
@@ -117,12 +117,15 @@ ousted_family counts =
       samples = listener_samples counts;
     }
 
--- what was counted of answers, whatever their status, and what was kept beside one of them, under names with this front
-abbrev pub server_families : List ℕ → Counts → ℕ → List Family
-server_families front c kept =
-    single (front ++ codes "answer_bytes_total") (codes "Bytes of answers and their heads.") Counter c.bytes
+-- what was counted of answers, whatever their status, what was kept beside one of them, what was lost of the log, and when the server was
+-- started, under names with this front
+abbrev pub server_families : List ℕ → Metrics → List Family
+server_families front m =
+    single (front ++ codes "answer_bytes_total") (codes "Bytes of answers and their heads.") Counter m.counts.bytes
     ∷ single (front ++ codes "answer_kept_most")
-    (codes "Samples and sums of shared values that were kept beside one answer, at most.") Gauge kept
+    (codes "Samples and sums of shared values that were kept beside one answer, at most.") Gauge m.kept
+    ∷ single (front ++ codes "log_lines_lost_total") (codes "Lines of the log that were lost.") Counter m.lost_lines
+    ∷ single (front ++ codes "start_time_seconds") (codes "When the server was started, in seconds since 1970.") Gauge m.started
     ∷ []
 
 -- the answers that were cut off, by cause

@@ -17,7 +17,7 @@ text_of m p =
     ++ family_text (refused_family m.counts.refused)
     ++ family_text (ousted_family m.counts.ousted)
     ++ family_text (cut_family m.counts.cut)
-    ++ families_text (server_families (codes "iiif_") m.counts m.kept)
+    ++ families_text (server_families (codes "iiif_") m)
     ++ family_text (answer_family m.counts.whole)
     ++ times_text m.times
     ++ seconds_text p.durations

@@ -48,6 +48,10 @@ pub struct Metrics {
     pub counts: Counts,
     /// How many samples and sums of shared values were kept beside one answer, at most.
     pub kept: u64,
+    /// How many lines of the log were lost.
+    pub lost_lines: u64,
+    /// When the server was started, in seconds since 1970.
+    pub started: u64,
     pub times: AnswerTimes,
 }
 

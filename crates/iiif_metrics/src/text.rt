@@ -9,7 +9,6 @@ ghost use Rattle.iiif_metrics.specs.Exposition.{sample_line, sample_view, server
 ghost use Rattle.iiif_metrics.specs.Page.{text_of};
 ghost use Rattle.iiif_metrics.specs.declared.text.MetricKind.TheVariants as MetricKind;
 
-use crate::counts::Counts;
 use crate::links::{push_links, push_seconds};
 use crate::metrics::{CacheMetrics, HeldMetrics, ImageMetrics, Metrics, PeerMetrics};
 use crate::times::push_times;
@@ -222,20 +221,30 @@ fn image_rows(images: &ImageMetrics) -> [Row<'static>; 4]
     ]
 }
 
-/// Returns the counts of answers, whatever their status, and of what was kept beside one of them.
-fn server_rows(counts: &Counts, kept: u64) -> [Row<'static>; 2]
-    ensures { (front : List ℕ) → map (row_family front) result ≡ server_families front counts.now kept }
+/// Returns the counts of answers, whatever their status, of what was kept beside one of them, and of lost lines, and the server's start.
+fn server_rows(metrics: &Metrics) -> [Row<'static>; 4]
+    ensures { (front : List ℕ) → map (row_family front) result ≡ server_families front metrics.now }
 {
     [
         counter(
             "answer_bytes_total",
             "Bytes of answers and their heads.",
-            counts.bytes,
+            metrics.counts.bytes,
         ),
         gauge(
             "answer_kept_most",
             "Samples and sums of shared values that were kept beside one answer, at most.",
-            kept,
+            metrics.kept,
+        ),
+        counter(
+            "log_lines_lost_total",
+            "Lines of the log that were lost.",
+            metrics.lost_lines,
+        ),
+        gauge(
+            "start_time_seconds",
+            "When the server was started, in seconds since 1970.",
+            metrics.started,
         ),
     ]
 }
@@ -402,11 +411,7 @@ pub fn metrics_text(
     push_refused(&mut text, &metrics.counts.refused)?;
     push_ousted(&mut text, &metrics.counts.ousted)?;
     push_cut(&mut text, &metrics.counts.cut)?;
-    push_rows(
-        &mut text,
-        "iiif_",
-        &server_rows(&metrics.counts, metrics.kept),
-    )?;
+    push_rows(&mut text, "iiif_", &server_rows(metrics))?;
     push_answers(&mut text, &metrics.counts.whole)?;
     push_times(&mut text, &metrics.times)?;
     push_seconds(&mut text, &peers.durations)?;

@@ -26,7 +26,7 @@ use iiif_connections::{
 use iiif_io::Outlet;
 use iiif_keys::{PARTS, System};
 use iiif_listener::{Inbox, OpenConnections};
-use iiif_log::write_lines;
+use iiif_log::{Moment, write_lines};
 use iiif_open_files::{Opens, ReadFailures, Texts};
 use iiif_peer_link::Reaches;
 use iiif_peer_versions::FileVersions;
@@ -105,6 +105,7 @@ where
 {
     let mut watcher = watcher_of(alloc, options, listening.logs)?;
     watcher.record = record_of(rt, alloc, listening.record)?;
+    watcher.started = Moment::now(rt);
     let listeners = match Listeners::bind(rt, alloc, &listening.addresses) {
         Ok(listeners) => listeners,
         Err(error) => return Err(Stop::Listen(Reason::new(&error))),

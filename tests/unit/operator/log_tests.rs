@@ -153,6 +153,27 @@ fn answered(target: &[u8]) -> Answered<'_> {
     }
 }
 
+/// Whether a log is written of which 1,024 lines of 1,030 wait, and how many were lost; and both once they were put to a device without
+/// room, and the log is closed.
+#[test]
+fn lines_that_are_lost_are_counted(rt: HostRuntime) -> Result<(), Fail> {
+    let alloc = rt.alloc();
+    let log = Log::new(alloc)?;
+    for _ in 0..1030u32 {
+        log.tell(&rt, &answered(b"/a"));
+    }
+    assert!(rt; is_same(&log.lost(), &6) && !log.is_written(&rt));
+    log.close(&rt);
+    let mut full = FailingWriter {
+        taken: Vec::new(alloc),
+        room: 0,
+        piece: 9,
+    };
+    write_lines(&rt, alloc, &log, &mut full);
+    assert!(rt; is_same(&log.lost(), &1030) && !log.is_written(&rt));
+    Ok(())
+}
+
 #[test]
 fn a_thread_writes_what_is_told(rt: HostRuntime) -> Result<(), Fail> {
     let alloc = rt.alloc();

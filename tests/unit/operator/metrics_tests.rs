@@ -99,6 +99,8 @@ fn metrics() -> Metrics {
             ousted: [24, 25, 26],
         },
         kept: 17,
+        lost_lines: 21,
+        started: 22,
     }
 }
 
@@ -204,6 +206,12 @@ iiif_answer_bytes_total 10
 # HELP iiif_answer_kept_most Samples and sums of shared values that were kept beside one answer, at most.
 # TYPE iiif_answer_kept_most gauge
 iiif_answer_kept_most 17
+# HELP iiif_log_lines_lost_total Lines of the log that were lost.
+# TYPE iiif_log_lines_lost_total counter
+iiif_log_lines_lost_total 21
+# HELP iiif_start_time_seconds When the server was started, in seconds since 1970.
+# TYPE iiif_start_time_seconds gauge
+iiif_start_time_seconds 22
 # HELP iiif_answers_total Answers that were sent whole.
 # TYPE iiif_answers_total counter
 iiif_answers_total{status=\"200\"} 1
