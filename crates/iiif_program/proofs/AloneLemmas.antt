@@ -1,6 +1,9 @@
 -- What a node that holds all its images writes of an answer.
-use Rattle.std.proofs.Common.{◌≡◌, ℕ, ◌⊎◌, inr, Bool, true, List, [], Option, Result, Ok, Err, subst}
+use Rattle.std.proofs.Common.{◌≡◌, ℕ, ◌⊎◌, inl, inr, Bool, true, false, List, [], Option, Result, Ok, Err, map, subst}
+use Rattle.std.specs.Prelude.{IsErr}
+use Rattle.std.specs.List.{AllZip}
 use Rattle.std.specs.Io.KnownBytes.{Appends}
+use denote.Ref.{Bor}
 use Rattle.iiif_tile_group.specs.Collection.{Item}
 use Rattle.iiif_answers.specs.Allowed.{Allowed}
 use Rattle.iiif_answers.specs.Answers.{Replies}
@@ -10,8 +13,13 @@ use Rattle.iiif_answers.specs.declared.answer.Sent.{Sent}
 use Rattle.iiif_answers.specs.declared.part.Part.TheVariants.{Body}
 use Rattle.iiif_connections.specs.Held.{AllHeld}
 use Rattle.iiif_connections.proofs.HeldLemmas.{held_allowed}
-use Rattle.iiif_program.specs.Alone.{IsAnswerOfHeld, IsBody, IsCutBody}
-use Rattle.iiif_start.specs.Stored.{bytes_of, keeps_of, stored_gave}
+use Rattle.iiif_command_line.specs.declared.line.Options.{Options}
+use Rattle.iiif_program.specs.Alone.{AnswersOpened, IsAnswerOfHeld, IsAnswerOfOpened, IsBody, IsCatalogueOf, IsCutBody}
+use Rattle.iiif_program.specs.Lines.{holding_in, settings_in}
+use Rattle.iiif_start.specs.Opened.{AreOpened}
+use Rattle.iiif_start.specs.Parts.{Parts}
+use Rattle.iiif_start.specs.Stored.{bytes_of, keeps_of, stored_gave, IsItemOf}
+use Rattle.iiif_start.specs.declared.holding.Holding.{Holding}
 use Rattle.iiif_start.specs.declared.stop.Stop.{Stop}
 use Rattle.iiif_start.specs.declared.stored.Stored.{Stored}
 
@@ -76,3 +84,40 @@ of_made {R} {d} bytes honest made settings has items target writer old new resul
     × IsAnswerOfHeld bytes s items target writer text result) same_settings
     (subst (λ (i : List (Item (Stored R d))). AllHeld i → honest ≡ true → (text : List ℕ) × Appends old new text
     × IsAnswerOfHeld bytes made i target writer text result) same_items answered)
+
+-- images that were opened, and are those that were named, are a catalogue
+pub catalogue_of : {R : Type 0} {d : _} (holds : List ℕ → List ℕ) (keeps : List ℕ → Type 0) (holding : Holding) (skip : Bool)
+    (named images served others : List (Bor (List ℕ) × Bor (List ℕ))) (catalogue : List (Item (Stored R d))) → images ≡ named
+    → map (λ i. i.name) catalogue ≡ map (λ i. i.0.now) served → AllZip (IsItemOf holds keeps holding) served catalogue
+    → Parts images served others → (skip ≡ false → served ≡ images) → IsCatalogueOf holds keeps holding skip named catalogue
+catalogue_of holds keeps holding skip named images served others catalogue same names items each all =
+    let opened : AreOpened holds keeps holding skip images catalogue served others =
+    record { names = names; items = items; each = each; all = all } in
+    record {
+      served = served;
+      others = others;
+      opened = subst (λ (i : List (Bor (List ℕ) × Bor (List ℕ))). AreOpened holds keeps holding skip i catalogue served others) same opened;
+    }
+
+-- an answer of a catalogue is one of the options that it was opened by
+pub opened_answer : {R : Type 0} {d : _} (holds : List ℕ → List ℕ) (keeps : List ℕ → Type 0) (options : Options) (settings : Settings)
+    (items : List (Item (Stored R d))) (target : List ℕ) (writer : Type 0) (old new : Option (List ℕ)) (result : Result (Unit {0}) Stop)
+    → settings ≡ settings_in options
+    → IsCatalogueOf holds keeps (holding_in options) options.skip_unfit options.images.items items
+    → (AllHeld items → (text : List ℕ) × Appends old new text × IsAnswerOfHeld (bytes_of holds) settings items target writer text result)
+    → AnswersOpened (bytes_of {R} {d} holds) holds keeps options target writer old new result
+opened_answer {R} {d} holds keeps options settings items target writer old new result same opened answered =
+    let answer : IsAnswerOfOpened (bytes_of {R} {d} holds) holds keeps options target writer old new result =
+    record {
+      items = items;
+      opened = opened;
+      answer = subst (λ (s : Settings). AllHeld items → (text : List ℕ) × Appends old new text
+          × IsAnswerOfHeld (bytes_of holds) s items target writer text result) same answered;
+    } in
+    inr answer
+
+-- an end before anything was written
+pub never_begun : {R : Type 0} {d : _} (holds : List ℕ → List ℕ) (keeps : List ℕ → Type 0) (options : Options) (target : List ℕ)
+    (writer : Type 0) (old new : Option (List ℕ)) (result : Result (Unit {0}) Stop) → IsErr result → new ≡ old
+    → AnswersOpened (bytes_of {R} {d} holds) holds keeps options target writer old new result
+never_begun holds keeps options target writer old new result failed same = inl (failed, same)

@@ -3,7 +3,8 @@
 ghost use Rattle.std.specs.Prelude.{◌≡◌, None, IfOk};
 ghost use Rattle.iiif_answers.specs.Outcomes.{IsReady};
 ghost use Rattle.iiif_answers.specs.Settings.{refusal_of};
-ghost use Rattle.iiif_program.specs.Lines.{settings_in};
+ghost use Rattle.iiif_program.specs.Lines.{holding_in, settings_in};
+ghost use Rattle.iiif_program.specs.Alone.{IsCatalogueOf};
 
 use crate::node_config::{NodeConfig, open_node};
 use crate::work::One;
@@ -57,6 +58,8 @@ pub(crate) fn open_for_one<'a, R: Opens + Wait, E: Write>(
 ) -> Result<NodeConfig<R>, Stop<'a>>
     requires { refusal_of (settings_in options.now) ≡ None }
     ensures config { IfOk result (λ m. m.config ≡ settings_in options.now) }
+    ensures catalogue { IfOk result (λ m. IsCatalogueOf R.holds R.keeps (holding_in options.now) options.now.skip_unfit
+        options.now.images.items m.catalogue) }
 {
     let mut made = open_node(rt, alloc, options, None, err)?;
     if !one.cache_given && !target_repeats(alloc, &made, one.target) {

@@ -2,7 +2,8 @@
 
 ghost use Rattle.std.specs.Prelude.{◌≡◌, None, IfOk};
 ghost use Rattle.iiif_answers.specs.Settings.{refusal_of};
-ghost use Rattle.iiif_program.specs.Lines.{settings_in};
+ghost use Rattle.iiif_program.specs.Lines.{holding_in, settings_in};
+ghost use Rattle.iiif_program.specs.Alone.{IsCatalogueOf};
 
 use crate::settings::config;
 use iiif_command_line::{Mode, Options};
@@ -26,8 +27,10 @@ pub struct NodeConfig<R: Opens + Wait> {
 }
 
 /// Makes the parts of the options' node: the images are opened, and reads of them that fail are noted, where there is something to note them
-/// in. Of those that are left out it is said why they can't be served.
-pub(crate) fn open_node<'a, R: Opens + Wait, E: Write>(
+/// in. Of those that are left out it is said why they can't be served. An image that is held has the digest that the options' manifest lists
+/// of its path, where there is one, whatever the disk gave.
+#[tactic(auto, using(crate::proofs::AloneLemmas::catalogue_of))]
+pub fn open_node<'a, R: Opens + Wait, E: Write>(
     rt: &R,
     alloc: Global,
     options: &Options<'a>,
@@ -36,6 +39,8 @@ pub(crate) fn open_node<'a, R: Opens + Wait, E: Write>(
 ) -> Result<NodeConfig<R>, Stop<'a>>
     requires { refusal_of (settings_in options.now) ≡ None }
     ensures config { IfOk result (λ m. m.config ≡ settings_in options.now) }
+    ensures catalogue { IfOk result (λ m. IsCatalogueOf R.holds R.keeps (holding_in options.now) options.now.skip_unfit
+        options.now.images.items m.catalogue) }
     ensures bytes { IfOk result (λ m. m.room.bytes ≡ options.now.cache_bytes) }
     ensures entries { IfOk result (λ m. m.room.entries ≡ options.now.cache_entries) }
 {

@@ -12,10 +12,10 @@ ghost use Rattle.iiif_peer_link.specs.Honest.{IsHonestTo};
 ghost use Rattle.iiif_peer_versions.specs.Keys.{IsSpelled};
 ghost use Rattle.iiif_peer_versions.specs.Told.{told_by};
 
-use crate::alone::answer_alone;
 use crate::keeping::open_for_one;
 use crate::node_config::{NodeConfig, versions_for, watcher_of};
 use crate::one::{answer_in_hex, answer_one, write_in_hex};
+use crate::opened::answer_opened;
 use crate::work::One;
 use iiif_command_line::Options;
 use iiif_connections::{Watcher, among};
@@ -57,10 +57,10 @@ where
     requires { refusal_of (settings_in options.now) ≡ None }
 {
     let before = versions_for(rt, alloc, options, None)?;
-    let made = open_for_one(rt, alloc, options, one, err)?;
     if options.peers.is_empty() {
-        return write_one_alone(rt, alloc, made, one, out);
+        return write_one_alone(rt, alloc, options, one, out, err);
     }
+    let made = open_for_one(rt, alloc, options, one, err)?;
     let versions = versions_for(rt, alloc, options, before.as_ref())?;
     let watcher = watcher_of(alloc, options, false)?;
     watcher.peers.look_up(rt, alloc);
@@ -93,23 +93,26 @@ where
 }
 
 /// Writes the body of the answer to a target by a node that asks no other, perhaps as hexadecimal digits.
-fn write_one_alone<'a, R, O>(
+fn write_one_alone<'a, R, O, E>(
     rt: &R,
     alloc: Global,
-    made: NodeConfig<R>,
+    options: &Options<'a>,
     one: &One<'_>,
     out: &mut O,
+    err: &mut E,
 ) -> Result<(), Stop<'a>>
 where
     R: Opens + Threads + Wait + Clock + Sync,
     R::Handle: Send + Sync,
     O: Outlet,
+    E: Write,
+    requires { refusal_of (settings_in options.now) ≡ None }
 {
     if !one.hex {
-        return answer_alone(rt, alloc, made, one.target, out);
+        return answer_opened(rt, alloc, options, one, out, err);
     }
     let mut body = Vec::new(alloc);
-    let answered = answer_alone(rt, alloc, made, one.target, &mut body);
+    let answered = answer_opened(rt, alloc, options, one, &mut body, err);
     write_in_hex(answered, &body, out)
 }
 

@@ -6,7 +6,7 @@ use iiif_services::Addresses;
 
 /// One target, whether the body of its answer is written as hexadecimal digits, and whether the words say how many bytes a cache keeps.
 #[derive(Clone, Copy)]
-pub(crate) struct One<'a> {
+pub struct One<'a> {
     pub target: &'a str,
     pub hex: bool,
     pub cache_given: bool,
