@@ -15,8 +15,8 @@ import time
 
 import compare
 
-sys.path.insert(0, os.path.join(os.path.dirname(os.path.abspath(__file__)), "..", "..", "tests", "hostile"))
-import program as running  # noqa: E402
+sys.path.insert(0, os.path.join(os.path.dirname(os.path.abspath(__file__)), "..", "..", "tests"))
+from lib import server as running  # noqa: E402
 
 # What the second answer may take of the first.
 LIMIT = 0.15
@@ -27,16 +27,8 @@ TARGET = "/iiif/a/full/1024,/0/default.tif"
 def asked(link, target):
     """The seconds that a GET takes until the last byte of its body is there, and the body."""
     start = time.perf_counter()
-    link.sendall(f"GET {target} HTTP/1.1\r\nHost: localhost\r\n\r\n".encode())
-    got = bytearray()
-    while b"\r\n\r\n" not in got:
-        part = link.recv(1 << 16)
-        if not part:
-            return 0, bytes(got)
-        got += part
-    head, _, body = bytes(got).partition(b"\r\n\r\n")
-    length = next(int(line.split(b":")[1]) for line in head.split(b"\r\n") if line.lower().startswith(b"content-length:"))
-    body += running.exactly(link, length - len(body))
+    link.sendall(running.encode_request(target))
+    _, body = running.read_answer(link)
     return time.perf_counter() - start, body
 
 

@@ -12,14 +12,14 @@ page cache's. Status 1 where a body differs, or where held takes more than 1.02 
 import argparse
 import os
 import statistics
-import struct
 import sys
 import tempfile
 import time
 
 TOP = os.path.dirname(os.path.dirname(os.path.dirname(os.path.abspath(__file__))))
-sys.path.insert(0, f"{TOP}/tests/hostile")
-import program as running
+sys.path.insert(0, f"{TOP}/tests")
+from lib import server as running  # noqa: E402
+from lib import tiff  # noqa: E402
 
 EDGE = 256
 
@@ -29,32 +29,17 @@ def samples(side):
     return [bytes((x * 7 + y * 13 + (x * y >> 7)) & 255 for x in range(side)) for y in range(side)]
 
 
-def tiff(rows, strips):
+def file_of(rows, strips):
     """A gray file of 8 bits in tiles of 256, or in strips of one row."""
     side = len(rows)
-    across = side // EDGE
     if strips:
-        pieces = rows
-        cut = [(278, 4, 1, 1)]
-        at, count = 273, 279
-    else:
-        pieces = [b"".join(rows[y * EDGE + r][x * EDGE:(x + 1) * EDGE] for r in range(EDGE)) for y in range(across) for x in range(across)]
-        cut = [(322, 4, 1, EDGE), (323, 4, 1, EDGE)]
-        at, count = 324, 325
-    n = len(pieces)
-    lists = 8 + 2 + 12 * (7 + len(cut) + 1) + 4
-    data = lists + 8 * n
-    fields = sorted([(256, 4, 1, side), (257, 4, 1, side), (258, 3, 1, 8), (259, 3, 1, 1), (262, 3, 1, 1), (277, 3, 1, 1), (at, 4, n, lists),
-                     (count, 4, n, lists + 4 * n), *cut])
-    lists = 8 + 2 + 12 * len(fields) + 4
-    data = lists + 8 * n
-    fields = [(t, k, c, lists if t == at else lists + 4 * n if t == count else v) for t, k, c, v in fields]
-    head = b"II*\0\x08\0\0\0" + struct.pack("<H", len(fields)) + b"".join(struct.pack("<HHII", *f) for f in fields) + bytes(4)
-    offsets, place = [], data
-    for piece in pieces:
-        offsets.append(place)
-        place += len(piece)
-    return head + struct.pack(f"<{n}I", *offsets) + struct.pack(f"<{n}I", *map(len, pieces)) + b"".join(pieces)
+        return tiff.encode_pieces(side, side, rows, strip=1)
+    return tiff.encode_pieces(side, side, [tile_of(rows, x, y) for y in range(0, side, EDGE) for x in range(0, side, EDGE)], tile=EDGE)
+
+
+def tile_of(rows, x, y):
+    """The samples of a tile."""
+    return b"".join(row[x:x + EDGE] for row in rows[y:y + EDGE])
 
 
 def processor(pid):
@@ -73,26 +58,11 @@ class Viewer:
                 self.link.close()
             self.link, self.asked = self.server.connect(), 0
         self.asked += 1
-        self.link.sendall(f"GET /iiif/a/{x},{y},{EDGE},{EDGE}/max/0/default.tif HTTP/1.1\r\nHost: localhost\r\n\r\n".encode())
-        got = bytearray()
-        while b"\r\n\r\n" not in got:
-            got += self.part()
-        head, _, body = bytes(got).partition(b"\r\n\r\n")
-        if not head.startswith(b"HTTP/1.1 200"):
-            sys.exit(head.decode())
-        length = next(int(line.split(b":")[1]) for line in head.split(b"\r\n") if line.lower().startswith(b"content-length:"))
-        parts, left = [body], length - len(body)
-        while left > 0:
-            part = self.part()
-            parts.append(part)
-            left -= len(part)
-        return b"".join(parts)
-
-    def part(self):
-        part = self.link.recv(1 << 18)
-        if not part:
-            sys.exit("a connection ended")
-        return part
+        self.link.sendall(running.encode_request(f"/iiif/a/{x},{y},{EDGE},{EDGE}/max/0/default.tif"))
+        status, body = running.read_answer(self.link)
+        if status != 200 or body is None:
+            sys.exit(f"a tile came with {status}, {'whole' if body else 'cut'}")
+        return body
 
 
 def main():
@@ -107,7 +77,7 @@ def main():
     with tempfile.TemporaryDirectory() as folder:
         path = f"{folder}/a.tif"
         with open(path, "wb") as file:
-            file.write(tiff(rows, given.strips))
+            file.write(file_of(rows, given.strips))
         with open(path, "rb") as file:
             while file.read(1 << 24):
                 pass
@@ -119,10 +89,9 @@ def main():
         tiles = [(x, y) for y in range(0, given.side, EDGE) for x in range(0, given.side, EDGE)]
         wrong = 0
         for x, y in tiles:
-            wanted = b"".join(row[x:x + EDGE] for row in rows[y:y + EDGE])
+            wanted = tiff.Answer(EDGE, EDGE, 1, 8, tile_of(rows, x, y)).encode()
             for name, _ in servers:
-                body = viewers[name].ask(x, y)
-                if not body.endswith(wanted) or len(body) - len(wanted) > 400:
+                if viewers[name].ask(x, y) != wanted:
                     wrong += 1
                     print(f"{name}: {x},{y}: other bytes", file=sys.stderr)
         took = {name: ([], []) for name, _ in servers}

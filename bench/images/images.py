@@ -10,33 +10,14 @@ same after each image was asked for whole. Each answer is compared with the file
 import argparse
 import os
 import resource
-import socket
-import struct
 import subprocess
 import sys
 import tempfile
 import time
 
-sys.path.insert(0, os.path.join(os.path.dirname(os.path.abspath(__file__)), "..", "..", "tests", "hostile"))
-from program import free_port  # noqa: E402
-
-
-def tiff(sample):
-    """A gray TIFF file of 4 by 4 places that have this sample."""
-    fields = [(256, 3, 4), (257, 3, 4), (258, 3, 8), (259, 3, 1), (262, 3, 1), (273, 4, 8), (277, 3, 1), (278, 3, 4), (279, 4, 16)]
-    entries = b"".join(struct.pack("<HHII", tag, kind, 1, value) for tag, kind, value in fields)
-    return b"II*\0" + struct.pack("<I", 24) + bytes([sample] * 16) + struct.pack("<H", len(fields)) + entries + bytes(4)
-
-
-def ask(port, target):
-    """The body of the answer to a target, on a connection of its own."""
-    with socket.create_connection(("127.0.0.1", port), timeout=30) as viewer:
-        viewer.sendall(f"GET {target} HTTP/1.1\r\nConnection: close\r\n\r\n".encode())
-        parts = []
-        while part := viewer.recv(65536):
-            parts.append(part)
-    head, _, body = b"".join(parts).partition(b"\r\n\r\n")
-    return head.split(b" ")[1], body
+sys.path.insert(0, os.path.join(os.path.dirname(os.path.abspath(__file__)), "..", "..", "tests"))
+from lib.server import BASE, ask, free_port  # noqa: E402
+from lib.tiff import Answer, encode_rows  # noqa: E402
 
 
 def first_answer(server, port, target):
@@ -68,12 +49,12 @@ def main():
         with open(f"{folder}/list", "w") as listed:
             for number in range(options.images):
                 with open(f"{folder}/{number}.tif", "wb") as image:
-                    image.write(tiff(number % 251))
+                    image.write(encode_rows([[[number % 251]] * 4] * 4, 1, 8))
                 listed.write(f"scan-{number}={folder}/{number}.tif\n")
         limit = (options.files, options.files)
         start = time.monotonic()
         server = subprocess.Popen(
-            [options.program, "--base", "http://localhost/iiif", "--listen", f"127.0.0.1:{port}", "--images", f"{folder}/list"],
+            [options.program, "--base", BASE, "--listen", f"127.0.0.1:{port}", "--images", f"{folder}/list"],
             stderr=subprocess.PIPE,
             preexec_fn=lambda: resource.setrlimit(resource.RLIMIT_NOFILE, limit),
         )
@@ -83,8 +64,8 @@ def main():
             print("images {}: first answer after {:.2f} s, {} open files, {} MB".format(options.images, started, *state(server)))
             wrong = 0
             for number in range(options.images):
-                status, body = ask(port, f"/iiif/scan-{number}/full/max/0/default.tif")
-                wrong += status != b"200" or not body.endswith(bytes([number % 251] * 16))
+                wanted = Answer(4, 4, 1, 8, bytes([number % 251] * 16)).encode()
+                wrong += ask(port, f"/iiif/scan-{number}/full/max/0/default.tif") != (200, wanted)
             print("each asked for whole: {} wrong answers, {} open files, {} MB".format(wrong, *state(server)))
             return 1 if wrong else 0
         finally:

@@ -6,9 +6,9 @@ import subprocess
 import sys
 import time
 
-for folder in ("../tests/hostile", "compare"):
+for folder in ("../tests", "compare"):
     sys.path.insert(0, os.path.join(os.path.dirname(os.path.abspath(__file__)), "..", folder))
-import program as running  # noqa: E402
+from lib import server as running  # noqa: E402
 from warming import touch  # noqa: E402
 
 BASE, NAME, IIPSRV = running.BASE, "gray", "/usr/lib/iipimage-server/iipsrv.fcgi"
@@ -104,7 +104,7 @@ class Program(Servers):
     """A build of the program: one node, or several that ask each other. Each is started in the environment of the package's unit."""
 
     def __init__(self, column, path, source, room, options=(), nodes=1):
-        known = running.options_of(path)
+        known = running.list_options(path)
         ports, peers, self.stats = ([running.free_port() for _ in range(nodes)] for _ in range(3))
         self.counts = "--stats-listen" in known
         commands = []
@@ -122,7 +122,7 @@ class Program(Servers):
         """Of each node the loads of tiles and of sums, and what came from other nodes, by its counters; nothing where it has none."""
         if not self.counts:
             return None
-        told = [running.counters(port) for port in self.stats]
+        told = [running.read_counters(port) for port in self.stats]
         return ["{} and {}, {} from others".format(it["iiif_tile_cache_loads_total"], it["iiif_sum_cache_loads_total"],
                                                     it["iiif_tile_cache_peer_total"] + it["iiif_sum_cache_peer_total"]) for it in told]
 

@@ -11,7 +11,6 @@ import http.client
 import http.server
 import json
 import re
-import struct
 import subprocess
 import sys
 import tempfile
@@ -20,6 +19,10 @@ from pathlib import Path
 
 import scale
 from model import Image
+
+sys.path.insert(0, str(Path(__file__).resolve().parents[2] / "tests"))
+from lib.server import Server  # noqa: E402
+from lib.tiff import encode_pieces  # noqa: E402
 
 PAGE = (Path(__file__).resolve().parents[2] / "viewers" / "own.html").read_bytes()
 PLACE, MOVES = (0.3, 0.6), (1, -1, 1)
@@ -45,8 +48,7 @@ page.onload = async () => {
 def blank(sides):
     """An uncompressed RGB file of samples of 0, in one strip."""
     w, h = sides
-    fields = [(256, 4, 1, w), (257, 4, 1, h), (258, 3, 3, 122), (259, 3, 1, 1), (262, 3, 1, 2), (273, 4, 1, 128), (277, 3, 1, 3), (278, 4, 1, h), (279, 4, 1, 3 * w * h)]
-    return b"II*\0\x08\0\0\0" + struct.pack("<H", 9) + b"".join(struct.pack("<HHII", *field) for field in fields) + bytes(4) + struct.pack("<3H", 8, 8, 8) + bytes(3 * w * h)
+    return encode_pieces(w, h, [bytes(3 * w * h)], channels=3, strip=h)
 
 
 class Fixed:
@@ -115,13 +117,12 @@ def main():
     with tempfile.TemporaryDirectory() as folder:
         file = Path(folder, "page.tif")
         file.write_bytes(blank(sides))
-        program = subprocess.Popen([args.program, "--base", f"http://localhost:{args.port}/iiif", "--listen", f"127.0.0.1:{args.port + 1}", f"page={file}"])
-        browser = subprocess.Popen(["chromium", "--headless=new", "--no-sandbox", "--disable-gpu", "--window-size=1500,1200", f"--user-data-dir={folder}/chromium",
-                                    f"http://localhost:{args.port}/drive"], stderr=subprocess.DEVNULL)
-        ended = server.done.wait(300)
-        for child in (browser, program):
-            child.terminate()
-            child.wait()
+        with Server(args.program, [f"page={file}"], port=args.port + 1, base=f"http://localhost:{args.port}/iiif"):
+            browser = subprocess.Popen(["chromium", "--headless=new", "--no-sandbox", "--disable-gpu", "--window-size=1500,1200",
+                                        f"--user-data-dir={folder}/chromium", f"http://localhost:{args.port}/drive"], stderr=subprocess.DEVNULL)
+            ended = server.done.wait(300)
+            browser.terminate()
+            browser.wait()
     asked = [re.match(r"/iiif/page/(full|[0-9,]+)/(max|[0-9,]+)/", path).groups() for path in server.asked if "info.json" not in path]
     wanted = []
     for request in scale.visit(Image(b"page", *sides, 3), Fixed()):

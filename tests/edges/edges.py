@@ -20,25 +20,18 @@ import tempfile
 import time
 
 HERE = os.path.dirname(os.path.abspath(__file__))
-sys.path[:0] = [os.path.join(HERE, "..", name) for name in ("hostile", "interop", "strangers")]
+sys.path[:0] = [os.path.join(HERE, "..", name) for name in ("", "hostile")]
 import files  # noqa: E402
-import program as running  # noqa: E402
-from places import picture  # noqa: E402
-from requests import plain  # noqa: E402
+from lib import server as running  # noqa: E402
+from lib import tiff  # noqa: E402
+from lib.server import run  # noqa: E402
 
-BASE = ["--base", "http://localhost/iiif"]
+BASE = ["--base", running.BASE]
 IMAGE = [*BASE, "--edge", "2", "--band", "1", "--one", "/iiif/a/full/max/0/default.tif"]
 # An image of many bands, whose rows no cache keeps.
 LARGE = [*BASE, "--edge", "64", "--band", "16", "--workers", "1", "--cache-bytes", "0", "--one", "/iiif/a/full/max/0/default.tif"]
 NOT_UTF8 = b"line: not UTF-8\neach word has to be UTF-8: rename a file whose name isn't\n"
 FULL = b"run: write\n"
-
-
-def run(program, words, **how):
-    """The status of a run, and what it wrote to its two outputs, where these are pipes."""
-    pipes = {"stdin": subprocess.DEVNULL, "stdout": subprocess.PIPE, "stderr": subprocess.PIPE}
-    done = subprocess.run([program, *words], timeout=60, **{**pipes, **how})
-    return done.returncode, done.stdout, done.stderr
 
 
 def words(program, path):
@@ -117,7 +110,7 @@ def large_in(room):
     """A larger image's file."""
     path = os.path.join(room, "large.tif")
     with open(path, "wb") as file:
-        file.write(plain([[[(3 * x + 5 * y) % 256] for x in range(300)] for y in range(300)], 1, 8, 0, 1, "<", False))
+        file.write(tiff.encode_rows([[[(3 * x + 5 * y) % 256] for x in range(300)] for y in range(300)], 1, 8, strip=1))
     return "a=" + path
 
 
@@ -140,7 +133,7 @@ def one_read(program, path):
     """Each read of a file of whole tiles failed alone: no run may end as if none had. An overview is made before its first band is sent."""
     with tempfile.TemporaryDirectory() as room:
         large = "a=" + os.path.join(room, "tiles.tif")
-        picture(large[2:], 320, 320, edge=64)
+        tiff.write_flat(large[2:], 320, 320, edge=64)
         for size, band, workers in itertools.product(("max", "75,"), ("1", "64"), ("1", "2", "4")):
             given = [*BASE, "--edge", "64", "--band", band, "--workers", workers, "--one", f"/iiif/a/full/{size}/0/default.tif", large]
             own, kinds = run(program, given), set()
@@ -161,7 +154,7 @@ def answered(program, path, env):
         for target in targets:
             with server.connect() as link:
                 link.sendall(f"GET {target} HTTP/1.1\r\nHost: localhost\r\nConnection: close\r\n\r\n".encode())
-                answers.append(running.to_the_end(link)[0])
+                answers.append(running.read_to_end(link)[0])
         wanted = "\n".join(rf"\S+Z GET 200 {len(it)} \d+ {re.escape(target)}" for it, target in zip(answers, targets))
         for _ in range(500):
             if re.fullmatch(wanted, server.line()):

@@ -16,18 +16,15 @@ another picture. The last line is `N passed, M failed`; the status is 1 where on
 import argparse
 import concurrent.futures
 import hashlib
-import http.client
 import os
 import random
-import socket
-import subprocess
 import sys
 import tempfile
-import time
 
 sys.path.insert(0, os.path.join(os.path.dirname(os.path.abspath(__file__)), ".."))
 from hostile.images import file_of  # noqa: E402
 from hostile.tiff import judge  # noqa: E402
+from lib.server import BASE, Server, ask, run  # noqa: E402
 
 TARGET = "/iiif/a/full/max/0/default.tif"
 SIDE = 300
@@ -72,9 +69,7 @@ class Room:
             file.write(data)
 
     def run(self, name, *words):
-        words = [self.program, "--base", "http://localhost/iiif", *words, f"a={name}"]
-        done = subprocess.run(words, cwd=self.folder, stdin=subprocess.DEVNULL, capture_output=True, timeout=60)
-        return done.returncode, done.stdout, done.stderr
+        return run(self.program, ["--base", BASE, *words, f"a={name}"], cwd=self.folder)
 
     def is_refused(self, name):
         """A start that holds the file refuses it."""
@@ -119,46 +114,18 @@ def before(room, places):
     return wrong, others
 
 
-def free_port():
-    with socket.socket() as it:
-        it.bind(("127.0.0.1", 0))
-        return it.getsockname()[1]
-
-
-def asked(port):
-    link = http.client.HTTPConnection("127.0.0.1", port, timeout=30)
-    try:
-        link.request("GET", TARGET)
-        answer = link.getresponse()
-        return answer.status, answer.read()
-    finally:
-        link.close()
-
-
 def while_served(room, places):
     """At which turned bits a server that holds the file answered with another than its image."""
     room.write("served.tif", room.data)
-    port, want = free_port(), room.image
-    words = ["--base", "http://localhost/iiif", "--hold", "1000000", "--cache-bytes", "0", "--manifest", "manifest"]
-    server = subprocess.Popen([room.program, *words, "--listen", f"127.0.0.1:{port}", "a=served.tif"], cwd=room.folder, stderr=subprocess.DEVNULL)
-    try:
-        ends = time.monotonic() + 60
-        while time.monotonic() < ends:
-            try:
-                asked(port)
-                break
-            except OSError:
-                time.sleep(0.05)
-        wrong = []
+    words = ["--hold", "1000000", "--cache-bytes", "0", "--manifest", "manifest"]
+    with Server(room.program, ["a=served.tif"], words, cwd=room.folder) as server:
+        wrong, want = [], (200, room.image)
         for place, bit in places:
             room.write("served.tif", turned(room.data, place, bit))
-            if asked(port) != (200, want):
+            if ask(server.port, TARGET) != want:
                 wrong.append((place, bit))
         os.remove(f"{room.folder}/served.tif")
-        return wrong + ([] if asked(port) == (200, want) else ["removed"])
-    finally:
-        server.kill()
-        server.wait()
+        return wrong + ([] if ask(server.port, TARGET) == want else ["removed"])
 
 
 def tell(results, name, is_right, said):

@@ -5,12 +5,13 @@ import struct
 import subprocess
 import sys
 
-import program as running
+import bounds
 import tiff
 from images import Answers
 
-sys.path.insert(0, os.path.join(os.path.dirname(os.path.abspath(__file__)), "..", "interop"))
-from requests import plain  # noqa: E402
+sys.path.insert(0, os.path.join(os.path.dirname(os.path.abspath(__file__)), ".."))
+from lib import server as running  # noqa: E402
+from lib.tiff import encode_rows  # noqa: E402
 
 SAMPLE = (b"II*\0\x18\0\0\0" + bytes(range(0, 160, 10)) + struct.pack("<H", 9)
           + b"".join(tiff.entry("little", *it) for it in [(256, 3, 1, 4), (257, 3, 1, 4), (258, 3, 1, 8), (259, 3, 1, 1), (262, 3, 1, 1), (273, 4, 1, 8),
@@ -72,7 +73,7 @@ def picture_file(chance):
     width, height, top = chance.randint(1, 14), chance.randint(1, 14), 2 ** bits - 1
     rows = [[[chance.randint(0, top) for _ in range(channels)] for _ in range(width)] for _ in range(height)]
     tile = chance.choice([0, 0, 3, 5, 8, 16])
-    return bytearray(plain(rows, channels, bits, tile, chance.randint(1, height), chance.choice("<>"), channels == 1 and chance.random() < 0.3))
+    return bytearray(encode_rows(rows, channels, bits, tile, chance.randint(1, height), chance.choice("<>"), channels == 1 and chance.random() < 0.3))
 
 
 def directory_of(data):
@@ -188,7 +189,7 @@ def asked_batch(args, room, chance, batch, found):
                 part = [(name, target, answers.answer(b"GET", target.encode())) for name, target in calls[at:at + 40]]
                 link.sendall(b"".join(f"GET {target} HTTP/1.1\r\n\r\n".encode() for _, target, _ in part))
                 for name, target, wanted in part:
-                    got = running.exactly(link, len(wanted))
+                    got = running.read_exactly(link, len(wanted))
                     if got != wanted:
                         found.append(keep(args.found, texts[name][0], f"{target}: wanted {wanted[:60]!r} and {len(wanted)} bytes, got {got[:60]!r}"))
                         return 0
@@ -196,7 +197,7 @@ def asked_batch(args, room, chance, batch, found):
             found.append(f"the server ended: {server.process.returncode}, {server.line()}")
             return 0
         pieces = sum(len(picture.offsets) for _, picture in batch)
-        return server.peak() - before - running.memory_bound(3, args.max, args.edge, pieces, True) - running.caches_of(args)
+        return server.peak() - before - bounds.memory_bound(3, args.max, args.edge, pieces, True) - bounds.caches_of(args)
 
 
 def run(args, room):

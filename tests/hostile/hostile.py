@@ -15,8 +15,6 @@ import sys
 import tempfile
 import time
 
-import program as running
-
 
 def parts(args):
     """The parts that are wanted, by name."""

@@ -6,10 +6,11 @@ over the whole region, by the evaluation that tests/interop has; nothing here kn
 import json
 import os
 import re
-import struct
 import sys
 
-sys.path.insert(0, os.path.join(os.path.dirname(os.path.abspath(__file__)), "..", "interop"))
+TESTS = os.path.join(os.path.dirname(os.path.abspath(__file__)), "..")
+sys.path[:0] = [TESTS, os.path.join(TESTS, "interop")]
+from lib.tiff import Answer  # noqa: E402
 from requests import scaled, strip_of, turned  # noqa: E402
 
 LINES = {1: "Q1 head", 2: "Q2 method", 3: "Q3 path", 4: "Q4 identifier", 5: "Q5 region", 6: "Q6 size", 7: "Q7 rotation", 8: "Q8 quality",
@@ -183,16 +184,10 @@ def canonical(rect, size, turn, quality, picture, limit):
 
 
 def file_of(rows, quality, picture):
-    """The TIFF file that is answered: twelve entries, two rationals of 1, one strip."""
+    """The file that is answered."""
     bits = 1 if quality == "bitonal" else 16 if picture.bits == 16 else 8
-    rgb = picture.channels == 3 and quality in ("default", "color")
-    strip = strip_of(rows, quality, picture.bits)
-    height, width = len(rows), len(rows[0])
-    entries = [(256, 4, 1, width), (257, 4, 1, height), (258, 3, 3, 174) if rgb else (258, 3, 1, bits), (259, 3, 1, 1), (262, 3, 1, 2 if rgb else 1),
-               (273, 4, 1, 180 if rgb else 174), (277, 3, 1, 3 if rgb else 1), (278, 4, 1, height), (279, 4, 1, len(strip)), (282, 5, 1, 158),
-               (283, 5, 1, 166), (296, 3, 1, 1)]
-    directory = struct.pack("<H", 12) + b"".join(struct.pack("<HHII", *it) for it in entries) + bytes(4)
-    return b"II*\0\x08\0\0\0" + directory + struct.pack("<4I", 1, 1, 1, 1) + (struct.pack("<3H", bits, bits, bits) if rgb else b"") + strip
+    channels = 3 if picture.channels == 3 and quality in ("default", "color") else 1
+    return Answer(len(rows[0]), len(rows), channels, bits, strip_of(rows, quality, picture.bits)).encode()
 
 
 class Answers:

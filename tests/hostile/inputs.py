@@ -1,10 +1,15 @@
 """Random inputs of connections: heads in and out of the grammar, pipelined, cut anywhere, in pieces."""
+import os
 import random
+import sys
 
+import bounds
 import heads
-import program as running
 import targets
 from images import Answers
+
+sys.path.insert(0, os.path.join(os.path.dirname(os.path.abspath(__file__)), ".."))
+from lib import server as running  # noqa: E402
 
 METHODS = [b"GET", b"GET", b"GET", b"HEAD", b"POST", b"PUT", b"X" * 30, b"G T", b"", b"G\x00T", "GÉT".encode()]
 VERSIONS = [b"HTTP/1.1"] * 8 + [b"HTTP/1.0", b"HTTP/1.0", b"HTTP/2.0", b"HTTP/1.2", b"http/1.1", b"HTTP/1.1 ", b"", b"HTTP/1"]
@@ -120,8 +125,8 @@ def run(args, room):
             data = texts[n] if n < fixed else one_input(chance, shown)
             allowed = heads.outputs(data, answers)
             either += len(allowed) - 1
-            got, ended = running.exchanged(server, pieces_of(chance, data))
+            got, ended = server.exchange(pieces_of(chance, data))
             if not ended or got not in allowed:
                 found.append(f"{data[:300]!r} ({len(data)} bytes): wanted {[it[:200] for it in allowed]}, got {got[:200]!r} ({len(got)} bytes), {'' if ended else 'not '}closed")
-        grown = running.left_behind(args, server, before, files, found)
-    return f"{args.inputs} inputs ({fixed} cuts and limits, {either} with two allowed answers){running.grown_by(grown)}", found
+        grown = bounds.left_behind(args, server, before, files, found)
+    return f"{args.inputs} inputs ({fixed} cuts and limits, {either} with two allowed answers){bounds.grown_by(grown)}", found

@@ -1,9 +1,14 @@
 """Random messages to the port for other nodes, where the program has one: each reply compared whole with the evaluation of `wire`."""
+import os
 import random
+import sys
 
-import program as running
+import bounds
 import targets
 import wire
+
+sys.path.insert(0, os.path.join(os.path.dirname(os.path.abspath(__file__)), ".."))
+from lib import server as running  # noqa: E402
 
 EXTREMES = [0, 1, 2, 3, 7, 20, 21, 255, 1024, 1025, 2 ** 31, 2 ** 32 - 1]
 
@@ -68,7 +73,7 @@ def fixed_inputs(edge):
 
 def run(args, room):
     """The fixed inputs first, then random ones up to the count."""
-    if "--peer-listen" not in running.options_of(args.program):
+    if "--peer-listen" not in running.list_options(args.program):
         return "left out: the program has no --peer-listen", []
     chance, found = random.Random(args.seed), []
     names, shown = targets.pictures(chance, room)
@@ -81,8 +86,8 @@ def run(args, room):
         for n in range(args.messages):
             data = texts[n] if n < len(texts) else one_input(chance, shown, args.edge)
             allowed = wire.replies(data, values)
-            got, ended = running.sent_to(port, [data])
+            got, ended = running.exchange(port, [data])
             if not ended or got not in allowed:
                 found.append(f"{data[:200].hex()} ({len(data)} bytes): wanted {allowed[0][:200].hex()}, got {got[:200].hex()}, {'' if ended else 'not '}closed")
-        grown = running.left_behind(args, server, before, files, found)
-    return f"{args.messages} messages ({len(texts)} cuts and limits){running.grown_by(grown)}", found
+        grown = bounds.left_behind(args, server, before, files, found)
+    return f"{args.messages} messages ({len(texts)} cuts and limits){bounds.grown_by(grown)}", found

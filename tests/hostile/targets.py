@@ -3,12 +3,13 @@ import os
 import random
 import sys
 
-import program as running
+import bounds
 import tiff
 from images import Answers, escaped
 
-sys.path.insert(0, os.path.join(os.path.dirname(os.path.abspath(__file__)), "..", "interop"))
-from requests import plain  # noqa: E402
+sys.path.insert(0, os.path.join(os.path.dirname(os.path.abspath(__file__)), ".."))
+from lib import server as running  # noqa: E402
+from lib.tiff import encode_rows  # noqa: E402
 
 NAMES = ["a", "a/b", "ü€", "%41", "full", "info.json", "a b?c#d", "x" * 1024]
 PIPELINED = 40
@@ -22,7 +23,7 @@ def pictures(chance, room):
         width, height = [(4, 4), (13, 9), (20, 3), (7, 11), (5, 6), (1000, 1), (1, 30), (9, 9)][n]
         top = 2 ** bits - 1
         rows = [[[chance.randint(0, top) for _ in range(channels)] for _ in range(width)] for _ in range(height)]
-        data = plain(rows, channels, bits, chance.choice([0, 4, 16]), chance.randint(1, height), chance.choice("<>"), channels == 1 and n % 2)
+        data = encode_rows(rows, channels, bits, chance.choice([0, 4, 16]), chance.randint(1, height), chance.choice("<>"), channels == 1 and n % 2)
         path = os.path.join(room, f"target{n}.tif")
         with open(path, "wb") as file:
             file.write(data)
@@ -149,7 +150,7 @@ def ask(server, calls, answers, found):
             link.sendall(b"".join(method + b" " + it + b" HTTP/1.1\r\n\r\n" for method, it in calls))
             for n, (method, it) in enumerate(calls):
                 wanted = answers.answer(method, it)
-                got = running.exactly(link, len(wanted))
+                got = running.read_exactly(link, len(wanted))
                 if got != wanted:
                     found.append(f"{method.decode()} {it!r} edge {answers.edge} upscale {answers.upscale}: wanted {wanted[:200]!r} .. ({len(wanted)} bytes), got {got[:200]!r}")
                     calls = calls[n + 1:]
@@ -162,7 +163,7 @@ def run(args, room):
     """Counts by status, and the disagreements."""
     chance, found, sent, above, growth = random.Random(args.seed), [], 0, 0, 0
     rounds = max(1, min(8, args.targets // 500))
-    may_upscale = "--upscale" in running.options_of(args.program)
+    may_upscale = "--upscale" in running.list_options(args.program)
     counts = {}
     for n in range(rounds):
         names, shown = pictures(chance, room)
@@ -185,7 +186,7 @@ def run(args, room):
             grown = server.peak() - before
             growth = max(growth, grown)
             longer = 1000 if upscale else None
-            above = max(above, grown - running.memory_bound(3, args.max, edge, 0, True, longer) - running.caches_of(args))
+            above = max(above, grown - bounds.memory_bound(3, args.max, edge, 0, True, longer) - bounds.caches_of(args))
     if above > 0:
         found.append(f"resident memory grew {above} bytes above the bound")
     said = ", ".join(f"{status} {count}" for status, count in sorted(counts.items(), key=str))

@@ -25,6 +25,10 @@ import sys
 import numpy as np
 from PIL import Image
 
+sys.path.insert(0, os.path.join(os.path.dirname(os.path.abspath(__file__)), ".."))
+from lib import tiff  # noqa: E402
+from lib.server import BASE, run  # noqa: E402
+
 NOT_TIFF, TRUNCATED, MISSING, UNSUPPORTED, BAD_FIELD, TOO_LARGE = 1, 2, 3, 4, 5, 6
 W, H = 203, 151
 
@@ -43,15 +47,11 @@ def pictures():
 
 def plain(samples, bits=False, white=False):
     """A plain file for the other programs to start from: one strip, low byte first; counted down from white where that is wanted."""
-    channels = samples.shape[2]
+    height, width, channels = samples.shape
     samples = np.iinfo(samples.dtype).max - samples if white else samples
     data = np.packbits(samples[:, :, 0] > 127, axis=1).tobytes() if bits else samples.tobytes()
-    depth = 1 if bits else 8 * samples.itemsize
-    entries = [(256, 4, 1, W), (257, 4, 1, H), (258, 3, channels, 134 if channels == 3 else depth), (259, 3, 1, 1),
-               (262, 3, 1, 2 if channels == 3 else 0 if white else 1), (273, 4, 1, 140), (277, 3, 1, channels), (278, 4, 1, H), (279, 4, 1, len(data)),
-               (284, 3, 1, 1)]
-    head = b"II*\0\x08\0\0\0" + struct.pack("<H", 10) + b"".join(struct.pack("<HHII", *entry) for entry in entries)
-    return head + bytes(4) + struct.pack("<3H", depth, depth, depth) + data
+    return tiff.encode_pieces(width, height, [data], more=[(tiff.COMPRESSION, tiff.SHORT, [1]), (tiff.PLANES, tiff.SHORT, [1])], channels=channels,
+                              bits=1 if bits else 8 * samples.itemsize, strip=height, white=white)
 
 
 # Writer, what it is told, the picture, and None where the file is to be accepted, else the number of its refusal.
@@ -187,18 +187,19 @@ def files(folder, sources, samples):
 
 def ask(program, words, path):
     """Status, standard output and standard error of the program for one target, the same whether the file is held in memory or not."""
-    command = [program, "--base", "http://localhost/iiif", "--one", f"/iiif/a/{words}", "a=" + path]
-    read, held = (subprocess.run(command + hold, capture_output=True) for hold in ([], ["--hold", str(2**40)]))
-    if (read.returncode, read.stdout, read.stderr) != (held.returncode, held.stdout, held.stderr):
-        return -1, b"", f"held in memory it ends with {held.returncode}, {len(held.stdout)} bytes and other words or bytes"
-    return read.returncode, read.stdout, read.stderr.decode(errors="replace")
+    command = ["--base", BASE, "--one", f"/iiif/a/{words}", "a=" + path]
+    read, held = (run(program, command + hold) for hold in ([], ["--hold", str(2**40)]))
+    if read != held:
+        return -1, b"", f"held in memory it ends with {held[0]}, {len(held[1])} bytes and other words or bytes"
+    return *read[:2], read[2].decode(errors="replace")
 
 
 def shown(body, like):
     """The samples of an answer: of 16 bits its last bytes behind the head of its length, else by Pillow."""
     if like.itemsize == 2:
-        head = 180 if like.shape[2] == 3 else 174
-        return np.frombuffer(body[head:], "<u2").reshape(like.shape) if len(body) == head + like.nbytes else None
+        answer = tiff.decode_answer(body)
+        fits = (answer.height, answer.width, answer.channels, answer.bits) == (*like.shape, 16)
+        return np.frombuffer(answer.strip, "<u2").reshape(like.shape) if fits else None
     with Image.open(io.BytesIO(body)) as image:
         return np.asarray(image.convert("RGB" if image.mode == "RGB" else "L")).reshape(image.height, image.width, -1)
 

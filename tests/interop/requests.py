@@ -9,60 +9,12 @@ exact fractions over the whole region, place by place, so nothing here knows of 
 """
 import os
 import random
-import struct
-import subprocess
 import sys
 import tempfile
 
-
-def plain(rows, channels, bits, tile, strip, order, inverted):
-    """A picture as a TIFF file in this byte order, in tiles with this side or in strips of so many rows; counted down from white where it
-    is inverted."""
-    top = 2 ** bits - 1
-    if inverted:
-        rows = [[[top - sample for sample in place] for place in row] for row in rows]
-    height, width = len(rows), len(rows[0])
-
-    def packed(line):
-        samples = [sample for place in line for sample in place]
-        if bits > 1:
-            return struct.pack(f"{order}{len(samples)}{'B' if bits == 8 else 'H'}", *samples)
-        text = "".join("1" if sample else "0" for sample in samples)
-        text += "0" * (-len(text) % 8)
-        return bytes(int(text[at:at + 8], 2) for at in range(0, len(text), 8))
-
-    pieces = []
-    if tile:
-        fill = [99] * channels if bits > 1 else [1]
-        for y in range(0, height, tile):
-            for x in range(0, width, tile):
-                lines = [list(row[x:x + tile]) for row in rows[y:y + tile]]
-                lines = [line + [fill] * (tile - len(line)) for line in lines] + [[fill] * tile] * (tile - len(lines))
-                pieces.append(b"".join(map(packed, lines)))
-    else:
-        pieces = [b"".join(map(packed, rows[y:y + strip])) for y in range(0, height, strip)]
-    data, places = b"", []
-    for piece in pieces:
-        places.append(8 + len(data))
-        data += piece
-    data += b"\0" * (len(data) % 2)
-    lists = 8 + len(data)
-    counts = lists + 4 * len(pieces)
-    depth = counts + 4 * len(pieces)
-    data += struct.pack(f"{order}{len(pieces)}I", *places) + struct.pack(f"{order}{len(pieces)}I", *map(len, pieces))
-    data += struct.pack(f"{order}4H", bits, bits, bits, 0)
-
-    def entry(tag, kind, count, value):
-        return struct.pack(f"{order}HHI", tag, kind, count) + struct.pack(*((f"{order}HH", value, 0) if kind == 3 and count == 1 else (f"{order}I", value)))
-
-    one = len(pieces) == 1
-    entries = [(256, 4, 1, width), (257, 4, 1, height), (258, 3, channels, depth if channels == 3 else bits), (262, 3, 1, 2 if channels == 3 else 1 - inverted),
-               (277, 3, 1, channels)]
-    where, length = (324, 325) if tile else (273, 279)
-    entries += [(where, 4, len(pieces), places[0] if one else lists), (length, 4, len(pieces), len(pieces[0]) if one else counts)]
-    entries += [(322, 4, 1, tile), (323, 4, 1, tile)] if tile else [(278, 4, 1, strip)]
-    directory = struct.pack(f"{order}H", len(entries)) + b"".join(entry(*it) for it in sorted(entries)) + bytes(4)
-    return struct.pack(f"{order}2sHI", b"II" if order == "<" else b"MM", 42, 8 + len(data)) + data + directory
+sys.path.insert(0, os.path.join(os.path.dirname(os.path.abspath(__file__)), ".."))
+from lib.server import BASE, run  # noqa: E402
+from lib.tiff import Answer, encode_rows, pack_samples  # noqa: E402
 
 
 def scaled(rows, c, d, channels):
@@ -90,15 +42,9 @@ def strip_of(rows, quality, bits):
     if len(rows[0][0]) == 3 and quality in ("gray", "bitonal"):
         rows = [[[(299 * r + 587 * g + 114 * b + 500) // 1000] for r, g, b in row] for row in rows]
     if quality != "bitonal":
-        samples = [sample for row in rows for place in row for sample in place]
-        return struct.pack(f"<{len(samples)}{'H' if bits == 16 else 'B'}", *samples)
-    out = b""
+        return pack_samples([sample for row in rows for place in row for sample in place], max(8, bits))
     white = 32768 if bits == 16 else 128
-    for row in rows:
-        text = "".join("1" if place[0] >= white else "0" for place in row)
-        text += "0" * (-len(text) % 8)
-        out += bytes(int(text[at:at + 8], 2) for at in range(0, len(text), 8))
-    return out
+    return b"".join(pack_samples([place[0] >= white for place in row], 1) for row in rows)
 
 
 def main():
@@ -118,7 +64,7 @@ def main():
             rows = [[[random.randint(low, high) for _ in range(channels)] for _ in range(width)] for _ in range(height)]
             tile = random.choice([0, 16, 32, 48])
             with open(path, "wb") as file:
-                file.write(plain(rows, channels, bits, tile, random.randint(1, height), random.choice("<>"), channels == 1 and random.random() < 0.3))
+                file.write(encode_rows(rows, channels, bits, tile, random.randint(1, height), random.choice("<>"), channels == 1 and random.random() < 0.3))
             if bits == 1:
                 rows = [[[255 * place[0]] for place in row] for row in rows]
             for _ in range(20):
@@ -131,12 +77,13 @@ def main():
                 words = ["--edge", random.randint(1, 64), "--band", random.choice([1, 3, 64]), "--workers", random.choice([1, 2, 5]),
                          "--cache-bytes", random.choice([0, 100, 67_108_864]), *["--upscale"] * larger]
                 target = f"/iiif/a/{x},{y},{w},{h}/{'^' * larger}{c},{d}/{'!' * mirror}{90 * quarters}/{quality}.tif"
-                command = [program, "--base", "http://localhost/iiif", *map(str, words), "--one", target, "a=" + path]
-                got = subprocess.run(command, capture_output=True).stdout
+                got = run(program, ["--base", BASE, *map(str, words), "--one", target, "a=" + path])[1]
                 region = [row[x:x + w] for row in rows[y:y + h]]
                 strip = strip_of(turned(scaled(region, c, d, channels), mirror, quarters), quality, bits)
+                sides = (d, c) if quarters % 2 else (c, d)
+                rgb = channels == 3 and quality in ("default", "color")
                 asked += 1
-                if not got.endswith(strip) or len(got) - len(strip) not in (174, 180):
+                if got != Answer(*sides, 3 if rgb else 1, 1 if quality == "bitonal" else max(8, bits), strip).encode():
                     wrong += 1
                     print("wrong:", target, *words, "tile", tile, (width, height), channels, bits)
     print(f"{asked} requests, {wrong} wrong")

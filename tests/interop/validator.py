@@ -5,21 +5,15 @@
 The picture has 10 by 10 coloured squares with a side of 100, as the validator's own, here of random colours. Needs numpy. Each line
 names the test, the target and what was answered; the status is 1 where that isn't what is wanted.
 """
-import struct
-import subprocess
+import os
 import sys
 import tempfile
 
 import numpy as np
 
-
-def plain(picture):
-    """An RGB picture as a TIFF file: one strip, low byte first."""
-    height, width, _ = picture.shape
-    entries = [(256, 4, 1, width), (257, 4, 1, height), (258, 3, 3, 122), (262, 3, 1, 2), (273, 4, 1, 128), (277, 3, 1, 3),
-               (278, 4, 1, height), (279, 4, 1, picture.size)]
-    head = b"II*\0\x08\0\0\0" + struct.pack("<H", 8) + b"".join(struct.pack("<HHII", *entry) for entry in entries)
-    return (head + bytes(4)).ljust(122, b"\0") + struct.pack("<3H", 8, 8, 8) + picture.tobytes()
+sys.path.insert(0, os.path.join(os.path.dirname(os.path.abspath(__file__)), ".."))
+from lib.server import BASE, run  # noqa: E402
+from lib.tiff import Answer, encode_pieces  # noqa: E402
 
 
 def gray(samples):
@@ -71,22 +65,21 @@ def judged(body, wanted):
     if isinstance(wanted, str):
         return body == wanted.encode() + b"\n", body[:40].decode(errors="replace").strip()
     rows = np.ascontiguousarray(wanted).tobytes()
-    sides = struct.unpack("<I8xI", body[18:34]) if len(body) > 180 else ()
-    same_sides = wanted.ndim == 2 or sides == (wanted.shape[1], wanted.shape[0])
-    head = 180 if wanted.ndim == 3 and wanted.shape[2] == 3 else 174
-    return same_sides and len(body) == head + len(rows) and body.endswith(rows), f"{len(body)} bytes, sides {sides}"
+    # Bits are packed, eight to a byte of their rows.
+    sides, channels, bits = ((1000, 1000), 1, 1) if wanted.ndim == 2 else (wanted.shape[1::-1], wanted.shape[2], 8)
+    return body == Answer(*sides, channels, bits, rows).encode(), f"{len(body)} bytes"
 
 
 def main():
     picture, tests = cases()
     wrong = 0
     with tempfile.NamedTemporaryFile(suffix=".tif") as file:
-        file.write(plain(picture))
+        file.write(encode_pieces(*picture.shape[1::-1], [picture.tobytes()], channels=3, strip=len(picture)))
         file.flush()
         for test, target, wanted in tests:
-            command = [sys.argv[1], "--base", "http://localhost/iiif", "--one", "/iiif/" + target, "a-b=" + file.name]
-            right, said = judged(subprocess.run(command, capture_output=True, check=True).stdout, wanted)
-            wrong += not right
+            status, body, _ = run(sys.argv[1], ["--base", BASE, "--one", "/iiif/" + target, "a-b=" + file.name])
+            right, said = judged(body, wanted)
+            wrong += not right or status != 0
             print(f"{test:22} {target:44} {said}{'' if right else '   WRONG'}")
     print(f"{len(tests)} requests, {wrong} wrong")
     return 1 if wrong else 0

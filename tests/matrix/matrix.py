@@ -15,11 +15,11 @@ import sys
 import threading
 
 HERE = os.path.dirname(os.path.abspath(__file__))
-sys.path[:0] = [os.path.join(HERE, "..", name) for name in ("hostile", "interop")]
+sys.path[:0] = [os.path.join(HERE, "..", name) for name in ("", "hostile")]
 import tiff  # noqa: E402
 from images import Answers  # noqa: E402
-from program import BASE, Server, exactly  # noqa: E402
-from requests import plain  # noqa: E402
+from lib.server import BASE, Server, read_exactly  # noqa: E402
+from lib.tiff import encode_rows  # noqa: E402
 
 SIDE, EDGE, LIMIT = 4, 2, 16_384
 CACHES, BANDS, WORKERS = (0, 100, 67_108_864), (1, 3, 64), (1, 2, 5)
@@ -32,7 +32,7 @@ AT_ONCE = 800
 def sample():
     """The picture that the program has built in: 0, 10, 20 and so on, row by row."""
     rows = [[[10 * (SIDE * y + x)] for x in range(SIDE)] for y in range(SIDE)]
-    return tiff.judge(plain(rows, 1, 8, 0, SIDE, "<", False))
+    return tiff.judge(encode_rows(rows, 1, 8))
 
 
 def targets():
@@ -53,7 +53,7 @@ def asked(server, calls, wanted):
             sender = threading.Thread(target=link.sendall, args=(text,))
             sender.start()
             for target, answer in zip(some, wanted[at:at + AT_ONCE]):
-                if exactly(link, len(answer)) != answer:
+                if read_exactly(link, len(answer)) != answer:
                     yield target
                     break
             sender.join()

@@ -11,11 +11,12 @@ import subprocess
 import threading
 import time
 
-from options import (BASE, CASES, LAST_TILE, SAMPLE_TARGET, asked, command, page, sample_file, shows, slow_link, wait_until)
-from hostile.program import Server, connected, exactly, free_port, to_the_end
-from strangers.places import picture
+from options import CASES, LAST_TILE, SAMPLE_TARGET, command, sample_file, shows, slow_link
+from lib.server import (BASE, Server, ask, connect, encode_request, free_port, read_answer, read_exactly, read_page, read_to_end,
+                        wait_until)
+from lib.tiff import Answer, decode_answer, write_flat
 
-ANSWER = f"GET {SAMPLE_TARGET} HTTP/1.1\r\nHost: localhost\r\n\r\n".encode()
+ANSWER = encode_request(SAMPLE_TARGET)
 SERVES = r"serves: generation {number}, images {images}, connections \d+, generations at work {alive}\n"
 
 
@@ -53,8 +54,8 @@ def write_list(path, text):
 
 def first_sample(port, name):
     """The status of an image, and its first sample."""
-    status, body = asked(port, f"/iiif/{name}/full/max/0/default.tif")
-    return (status, body[174]) if status == 200 else (status, None)
+    status, body = ask(port, f"/iiif/{name}/full/max/0/default.tif")
+    return (status, decode_answer(body).strip[0]) if status == 200 else (status, None)
 
 
 @shows("--control")
@@ -92,20 +93,20 @@ def a_socket_that_was_left_is_taken_and_a_live_one_is_not(program, room):
 def a_drain_answers_the_call_at_work_and_ends_with_0(program, room):
     # One viewer has its answer, and another one's is at work: while the server drains nobody is let in, the first is ended without a byte
     # more, and the second has its answer whole.
-    picture(f"{room}/large_for_drains.tif", 4000, 4000)
+    write_flat(f"{room}/large_for_drains.tif", 4000, 4000)
     with controlled(program, room, "drain", [f"a={room}/large_for_drains.tif", "b=:sample"]) as (server, path):
-        with connected(server.port) as kept, connected(server.port, 60) as slow:
-            kept.sendall(b"HEAD /iiif/b/full/max/0/default.tif HTTP/1.1\r\nHost: localhost\r\n\r\n")
+        with connect(server.port) as kept, connect(server.port, 60) as slow:
+            kept.sendall(encode_request("/iiif/b/full/max/0/default.tif", "HEAD"))
             head = kept.recv(4096)
             slow.setsockopt(socket.SOL_SOCKET, socket.SO_RCVBUF, 65536)
             slow.sendall(ANSWER)
-            first, said = exactly(slow, 1), []
+            first, said = read_exactly(slow, 1), []
             teller = threading.Thread(target=lambda: said.append(told(program, path, "drain")))
             teller.start()
-            rest = to_the_end(kept)
+            rest = read_to_end(kept)
             wait_until(lambda: is_shut(server.port))
             state = told(program, path, "status")[1].split(":")[0]
-            body = len((first + to_the_end(slow)[0]).partition(b"\r\n\r\n")[2])
+            body = len((first + read_to_end(slow)[0]).partition(b"\r\n\r\n")[2])
             teller.join()
         ended = server.process.wait(60)
     got = head.startswith(b"HTTP/1.1 200 "), rest, is_shut(server.port), state, body > 4000 * 4000, said, ended, os.path.exists(path)
@@ -116,7 +117,7 @@ def a_drain_answers_the_call_at_work_and_ends_with_0(program, room):
 def is_shut(port):
     """Whether nobody is let in at a port."""
     try:
-        connected(port, 2).close()
+        connect(port, 2).close()
         return False
     except (ConnectionRefusedError, ConnectionResetError, TimeoutError):
         return True
@@ -126,13 +127,13 @@ def begun_link(port):
     """A connection that takes little at a time, and the first byte of the large image that it asked for."""
     link = slow_link(port)
     link.settimeout(120)
-    return link, exactly(link, 1)
+    return link, read_exactly(link, 1)
 
 
 @shows("--drain-seconds", 6)
 def a_call_that_takes_longer_than_drain_seconds_is_cut(program, room):
     # A client that takes nothing for a while: within ten minutes it gets its image whole, within a second it doesn't.
-    picture(f"{room}/large_for_limits.tif", 4000, 4000)
+    write_flat(f"{room}/large_for_limits.tif", 4000, 4000)
     got = []
     for seconds in (1, 600):
         words = ["--drain-seconds", seconds, "--min-rate", 0]
@@ -143,7 +144,7 @@ def a_call_that_takes_longer_than_drain_seconds_is_cut(program, room):
             teller.start()
             # The end of the one drain; a while, in which the other one's limit isn't over.
             teller.join(120 if seconds == 1 else 4)
-            body = len((first + to_the_end(link)[0]).partition(b"\r\n\r\n")[2])
+            body = len((first + read_to_end(link)[0]).partition(b"\r\n\r\n")[2])
             link.close()
             teller.join()
             got.append((said, server.process.wait(60), body > 4000 * 4000))
@@ -153,7 +154,7 @@ def a_call_that_takes_longer_than_drain_seconds_is_cut(program, room):
 
 @shows("--tell", 8)
 def a_stop_is_heard_in_a_drain(program, room):
-    picture(f"{room}/large_for_stops.tif", 4000, 4000)
+    write_flat(f"{room}/large_for_stops.tif", 4000, 4000)
     with controlled(program, room, "stop", [f"a={room}/large_for_stops.tif"], ["--drain-seconds", 600, "--min-rate", 0]) as (server, path):
         link, _ = begun_link(server.port)
         begun, said = time.monotonic(), []
@@ -204,15 +205,15 @@ def a_viewer_that_reads_over_a_reload_gets_the_image_of_before(program, room):
     path, got, links = f"{room}/list_of_large", [], []
     sides = (4000, 3000, 3500)
     for side in sides:
-        picture(f"{room}/large_of_{side}.tif", side, side)
+        write_flat(f"{room}/large_of_{side}.tif", side, side)
     write_list(path, f"a={room}/large_of_{sides[0]}.tif\n")
     with controlled(program, room, "over", [], ["--images", path, "--min-rate", 0]) as (server, control):
         for side in (*sides[1:], sides[0]):
             links.append(begun_link(server.port)[0])
             write_list(path, f"a={room}/large_of_{side}.tif\n")
             got.append(told(program, control, "reload"))
-        got.append(Load.answer(links[0], b"H")[1][174:] == bytes(sides[0] ** 2))
-        links[0].sendall(b"HEAD /iiif/a/full/max/0/default.tif HTTP/1.1\r\nHost: localhost\r\n\r\n")
+        got.append(Load.answer(links[0], b"H")[1] == Answer(sides[0], sides[0], 1, 8, bytes(sides[0] ** 2)).encode())
+        links[0].sendall(encode_request(SAMPLE_TARGET, "HEAD"))
         length = int(re.search(rb"Content-Length: (\d+)", links[0].recv(4096))[1])
         got.append(sides[2] ** 2 < length < sides[0] ** 2)
         for link in links:
@@ -232,7 +233,7 @@ def health_of_a_start(program, touched):
     try:
         ends = time.monotonic() + 100
         while (not seen or seen[-1][0] != 200) and time.monotonic() < ends:
-            found = page(statistics, "/health")
+            found = read_page(statistics, "/health")
             seen += [found] if found not in seen[-1:] else []
     finally:
         server.kill()
@@ -263,12 +264,12 @@ class Load(threading.Thread):
         chance, link = random.Random(self.port), None
         while not self.over.is_set():
             try:
-                link = link or connected(self.port, 30)
+                link = link or connect(self.port, 30)
             except OSError:
                 return
             target, bodies = chance.choice(self.targets)
             try:
-                link.sendall(f"GET {target} HTTP/1.1\r\nHost: localhost\r\n\r\n".encode())
+                link.sendall(encode_request(target))
                 first = link.recv(1)
             except OSError:
                 first = b""
@@ -290,17 +291,10 @@ class Load(threading.Thread):
     def answer(link, got):
         """The status and the body of an answer whose first byte came. None where it doesn't come whole."""
         try:
-            while b"\r\n\r\n" not in got:
-                part = link.recv(65536)
-                if not part:
-                    return None
-                got += part
-            head, _, body = got.partition(b"\r\n\r\n")
-            length = int(re.search(rb"Content-Length: (\d+)", head)[1])
-            body += exactly(link, length - len(body))
-            return (int(head.split()[1]), body) if len(body) == length else None
+            status, body = read_answer(link, got)
         except OSError:
             return None
+        return None if body is None else (status, body)
 
     def end(self):
         self.over.set()

@@ -3,14 +3,14 @@
 Images are files with holes, all of whose samples are 0, in tiles of 256. Their tiles are counted by the reads of a whole tile.
 """
 import os
-import struct
 import subprocess
 import tempfile
 
-from options import Case
+from options import BASE, Case
+from lib.tiff import write_pieces
 
 CASES = []
-EDGE, BASE = 256, ["--base", "http://localhost/iiif"]
+EDGE = 256
 # Half of the pages that the 16 MiB of all tiles have. The peak of a child's memory would count its parent's.
 FEW_PAGES = 16 * 1024 // 4 // 2
 
@@ -23,20 +23,9 @@ def counts(function):
 
 def black(path, width, height):
     """Writes a gray file of 8 bits with these sides, of which only the lists take room."""
-    across, down = -(-width // EDGE), -(-height // EDGE)
-    count, size = across * down, EDGE * EDGE
-    lists = 8 + count * size
-    entries = [(256, width), (257, height), (258, 8), (259, 1), (262, 1), (277, 1), (322, EDGE), (323, EDGE), (324, lists),
-               (325, lists + 4 * count)]
+    count = -(-width // EDGE) * -(-height // EDGE)
     with open(path, "wb") as file:
-        file.write(struct.pack("<2sHI", b"II", 42, lists + 8 * count))
-        file.seek(lists)
-        file.write(struct.pack(f"<{count}I", *(8 + n * size for n in range(count))))
-        file.write(struct.pack(f"<{count}I", *[size] * count))
-        file.write(struct.pack("<H", len(entries)))
-        for tag, value in entries:
-            file.write(struct.pack("<HHII", tag, 4, count if tag in (324, 325) else 1, value))
-        file.write(bytes(4))
+        write_pieces(file, width, height, [EDGE * EDGE] * count, tile=EDGE)
 
 
 def one(program, room, sides, target, *options):
@@ -44,7 +33,7 @@ def one(program, room, sides, target, *options):
     with tempfile.TemporaryDirectory() as folder:
         image, notes = f"{folder}/black.tif", f"{folder}/notes"
         black(image, *sides)
-        command = [program, *BASE, *options, "--one", f"/iiif/a/{target}/0/default.tif", f"a={image}"]
+        command = [program, "--base", BASE, *options, "--one", f"/iiif/a/{target}/0/default.tif", f"a={image}"]
         counted = {**os.environ, "LD_PRELOAD": f"{room}/reads.so", "READS_SIZE": str(EDGE * EDGE), "READS_TO": notes}
         with subprocess.Popen(command, stdout=subprocess.DEVNULL, env=counted) as child:
             _, status, usage = os.wait4(child.pid, 0)

@@ -11,17 +11,15 @@ import struct
 import subprocess
 import sys
 import time
-import urllib.error
-import urllib.request
 
 HERE = os.path.dirname(os.path.abspath(__file__))
 sys.path.insert(0, os.path.dirname(HERE))
-from interop.requests import plain  # noqa: E402
 from hostile import wire  # noqa: E402
-from hostile.images import Answers, file_of  # noqa: E402
-from hostile.program import BASE, Refused, Server, connected, exactly, free_port, started, to_the_end  # noqa: E402
+from hostile.images import Answers  # noqa: E402
 from hostile.tiff import judge  # noqa: E402
-from strangers.places import picture  # noqa: E402
+from lib.server import (BASE, Refused, Server, ask, connect, encode_request, free_port, read_exactly, read_page, read_to_end, start,  # noqa: E402
+                        wait_until)
+from lib.tiff import encode_rows, write_flat  # noqa: E402
 
 CASES = []
 SAMPLE_TARGET = "/iiif/a/full/max/0/default.tif"
@@ -40,7 +38,7 @@ class Case:
 
     def check(self, program, room):
         """Runs it; once more where a port was taken meanwhile, as by a process between its fork and its exec."""
-        return started(lambda: self.function(program, room))
+        return start(lambda: self.function(program, room))
 
 
 def shows(option, seconds=1):
@@ -49,32 +47,6 @@ def shows(option, seconds=1):
         CASES.append(Case(option, seconds, function))
         return function
     return note
-
-
-def asked(port, target, timeout=60):
-    """The status and the body of an answer, as far as it came."""
-    with connected(port, timeout) as link:
-        try:
-            link.sendall(f"GET {target} HTTP/1.1\r\nHost: localhost\r\nConnection: close\r\n\r\n".encode())
-        except (BrokenPipeError, ConnectionResetError):
-            return None, b""
-        head, _, body = to_the_end(link)[0].partition(b"\r\n\r\n")
-    return int(head.split()[1]) if head else None, body
-
-
-def page(port, target):
-    """The status and the text that the listener of statistics answers. It may listen later than that of viewers, and refuses a second
-    connection by --per-address, too."""
-    ends = time.monotonic() + 60
-    while time.monotonic() < ends:
-        try:
-            with urllib.request.urlopen(f"http://127.0.0.1:{port}{target}", timeout=60) as answer:
-                return answer.status, answer.read().decode()
-        except urllib.error.HTTPError as answer:
-            return answer.code, answer.read().decode()
-        except (ConnectionError, urllib.error.URLError):
-            time.sleep(0.02)
-    raise TimeoutError(f"nothing listens at {port}")
 
 
 def counter(text, name):
@@ -103,7 +75,7 @@ def sample_in(room, name):
 
 def sample():
     """The built-in picture: 0, 10, 20 and so on."""
-    return judge(plain([[[10 * (4 * y + x)] for x in range(4)] for y in range(4)], 1, 8, 0, 4, "<", False))
+    return judge(encode_rows([[[10 * (4 * y + x)] for x in range(4)] for y in range(4)], 1, 8))
 
 
 def sample_answers():
@@ -120,7 +92,7 @@ def sample_file(target=SAMPLE_TARGET):
 def listen_serves_until_it_is_stopped(program, room):
     words = ["a=:sample"]
     with Server(program, words) as server:
-        got = [asked(server.port, SAMPLE_TARGET), server.alive()]
+        got = [ask(server.port, SAMPLE_TARGET), server.alive()]
         server.process.send_signal(signal.SIGTERM)
         got.append(server.process.wait(60))
     return got, [(200, sample_file()), True, -signal.SIGTERM], command(program, *words)
@@ -134,7 +106,7 @@ def a_held_file_is_answered_after_it_was_cut_and_removed(program, room):
         with Server(program, ["a=" + path], ["--edge", 2, "--hold", hold]) as server:
             os.truncate(path, 100)
             os.remove(path)
-            got.append(asked(server.port, SAMPLE_TARGET))
+            got.append(ask(server.port, SAMPLE_TARGET))
     return got, [(200, sample_file()), (500, b"L1 source\n")], command(program, "--edge", 2, "--hold", 190, "a=sample.tif")
 
 
@@ -156,9 +128,9 @@ def a_file_that_is_written_over_gives_old_pixels_or_none(program, room):
             other = bytearray(file.read())
         other[-16:] = bytes(255 - it for it in other[-16:])
         with Server(program, ["a=" + path], ["--edge", 2, "--hold", hold]) as server:
-            asked(server.port, LAST_TILE)
+            ask(server.port, LAST_TILE)
             write_over(path, other)
-            got += [asked(server.port, SAMPLE_TARGET), asked(server.port, LAST_TILE)]
+            got += [ask(server.port, SAMPLE_TARGET), ask(server.port, LAST_TILE)]
     whole, tile = (200, sample_file()), (200, sample_file(LAST_TILE))
     return got, [whole, tile, (500, b"L1 source\n"), tile], command(program, "--edge", 2, "--hold", 190, "a=sample.tif")
 
@@ -170,8 +142,8 @@ def a_cache_of_0_keeps_no_tile_for_the_second_call(program, room):
     for words in ([], ["--cache-bytes", 0]):
         statistics = free_port()
         with Server(program, ["a=:sample"], ["--edge", 2, "--stats-listen", f"127.0.0.1:{statistics}", *words]) as server:
-            bodies = {asked(server.port, SAMPLE_TARGET) for _ in range(2)}
-            text = page(statistics, "/metrics")[1]
+            bodies = {ask(server.port, SAMPLE_TARGET) for _ in range(2)}
+            text = read_page(statistics, "/metrics")[1]
             found = [counter(text, f"iiif_tile_cache_{it}_total") for it in ("hits", "loads")]
             got.append((bodies == {(200, sample_file())}, *found))
     words = ["--edge", 2, "--cache-bytes", 0, "--stats-listen", "127.0.0.1:9090"]
@@ -200,8 +172,8 @@ def a_cache_of_3_entries_keeps_no_tile_of_four_for_the_second_call(program, room
         statistics = free_port()
         words = ["--edge", 2, "--workers", 1, "--cache-entries", entries, "--stats-listen", f"127.0.0.1:{statistics}"]
         with Server(program, ["a=:sample"], words) as server:
-            bodies = {asked(server.port, SAMPLE_TARGET) for _ in range(2)}
-            text = page(statistics, "/metrics")[1]
+            bodies = {ask(server.port, SAMPLE_TARGET) for _ in range(2)}
+            text = read_page(statistics, "/metrics")[1]
             found = [counter(text, f"iiif_tile_cache_{it}_total") for it in ("hits", "loads")]
             got.append((bodies == {(200, sample_file())}, *found))
     words = ["--edge", 2, "--workers", 1, "--cache-entries", 3, "--stats-listen", "127.0.0.1:9090"]
@@ -214,7 +186,7 @@ def a_cache_that_gray_tiles_cannot_fill_is_warned_of(program, room):
     got = []
     for entries in (4096, 4097):
         with Server(program, ["a=:sample"], ["--cache-bytes", 2 ** 28 + 1, "--cache-entries", entries]) as server:
-            asked(server.port, SAMPLE_TARGET)
+            ask(server.port, SAMPLE_TARGET)
             got.append(server.line())
     return got, [told, ""], command(program, "--cache-bytes", 2 ** 28 + 1, "a=:sample")
 
@@ -225,15 +197,15 @@ def the_first_band_is_sent_before_the_last_is_read(program, room):
     # meanwhile isn't sent; one of 4,096 rows was read before its first byte was sent.
     got, path = [], f"{room}/bands.tif"
     for band in (64, 4096):
-        picture(path, 4096, 4096)
+        write_flat(path, 4096, 4096)
         words = ["--cache-bytes", 0, "--workers", 1, "--band", band]
-        with Server(program, ["a=" + path], words) as server, connected(server.port) as link:
+        with Server(program, ["a=" + path], words) as server, connect(server.port) as link:
             link.setsockopt(socket.SOL_SOCKET, socket.SO_RCVBUF, 65536)
-            link.sendall(f"GET {SAMPLE_TARGET} HTTP/1.1\r\nHost: localhost\r\nConnection: close\r\n\r\n".encode())
-            first = exactly(link, 1)
+            link.sendall(encode_request(SAMPLE_TARGET, more="Connection: close\r\n"))
+            first = read_exactly(link, 1)
             rest(server)
             os.truncate(path, 1000)
-            count = len(first + to_the_end(link)[0].partition(b"\r\n\r\n")[2])
+            count = len(first + read_to_end(link)[0].partition(b"\r\n\r\n")[2])
         got.append(1 < count < 4096 * 4096 or count > 4096 * 4096 and "whole")
     return got, [True, "whole"], command(program, *words, "a=" + path)
 
@@ -246,8 +218,8 @@ def threads_of(program, room, workers, wanted):
         file.write(struct.pack("3i", 0, 0, 0))
     counted = {**os.environ, "LD_PRELOAD": f"{room}/threads.so", "THREADS_TO": notes}
     words = ["--edge", 64, "--cache-bytes", 0, "--workers", workers]
-    with Server(program, [f"a={room}/large_for_threads.tif"], words, counted) as server, connected(server.port, 120) as link:
-        link.sendall(b"HEAD /iiif/a/full/2048,/0/default.tif HTTP/1.1\r\nHost: localhost\r\n\r\n")
+    with Server(program, [f"a={room}/large_for_threads.tif"], words, counted) as server, connect(server.port, 120) as link:
+        link.sendall(encode_request("/iiif/a/full/2048,/0/default.tif", "HEAD"))
         head = link.recv(65536)
         length = len(head) + int(re.search(rb"Content-Length: (\d+)", head)[1])
         # Not those that began before: of this connection, and of the one by which the server was found.
@@ -258,8 +230,8 @@ def threads_of(program, room, workers, wanted):
             for image in range(100):
                 if image > 0 and (most >= wanted or time.monotonic() > ends):
                     break
-                link.sendall(b"GET /iiif/a/full/2048,/0/default.tif HTTP/1.1\r\nHost: localhost\r\n\r\n")
-                if len(exactly(link, length)) != length:
+                link.sendall(encode_request("/iiif/a/full/2048,/0/default.tif"))
+                if len(read_exactly(link, length)) != length:
                     raise EOFError("an image didn't come whole")
                 file.seek(8)
                 most = struct.unpack("i", file.read(4))[0]
@@ -270,7 +242,7 @@ def threads_of(program, room, workers, wanted):
 def one_image_is_made_by_as_many_threads_as_workers_says(program, room):
     # One worker is the connection's own thread; each further one has a thread of its own. A band of the image has 32 blocks. A thread that
     # gave its worker back may not have ended when the next one begins.
-    picture(f"{room}/large_for_threads.tif", 4096, 4096, edge=64)
+    write_flat(f"{room}/large_for_threads.tif", 4096, 4096, edge=64)
     got = [threads_of(program, room, workers, workers - 1) for workers in (1, 2, 5)]
     got = [workers - 1 <= it <= 2 * (workers - 1) or it for workers, it in zip((1, 2, 5), got)]
     return got, [True, True, True], command(program, "--edge", 64, "--cache-bytes", 0, "--workers", 5, "a=large.tif")
@@ -327,7 +299,7 @@ def a_silent_node_is_waited_for_as_long_as_peer_timeout_says(program, room):
             words = ["--edge", 2, "--peer-timeout", timeout, "--peer", "other85=127.0.0.1:%d" % silent.getsockname()[1]]
             with Server(program, ["a=:sample"], words) as server:
                 begun = time.monotonic()
-                bodies.add(asked(server.port, LAST_TILE))
+                bodies.add(ask(server.port, LAST_TILE))
                 took.append(time.monotonic() - begun)
         if timeout == 20 and took[-1] < 1.5:
             break
@@ -339,7 +311,7 @@ def a_silent_node_is_waited_for_as_long_as_peer_timeout_says(program, room):
 def a_reader_below_min_rate_is_cut_after_30_seconds(program, room):
     # Three read 20,000 bytes a second: below 1,000,000 one is cut once it was waited for 30 s; it isn't at the default of 4,096, nor at 0.
     # On a slow machine the looks are rarer, and more is read at each.
-    picture(f"{room}/large_for_readers.tif", 4000, 4000)
+    write_flat(f"{room}/large_for_readers.tif", 4000, 4000)
     settings = {"above": ["--min-rate", 1_000_000], "default": [], "none": ["--min-rate", 0]}
     servers, cut_after = {}, {}
     for name, words in settings.items():
@@ -353,7 +325,7 @@ def a_reader_below_min_rate_is_cut_after_30_seconds(program, room):
         while time.monotonic() < ends:
             for name, link in links.items():
                 taken[name] += take(link, max(2000, int(20_000 * (time.monotonic() - begun)) - taken[name]))
-                if name not in cut_after and cut(page(servers[name][1], "/metrics")[1]) == {"rate": 1}:
+                if name not in cut_after and cut(read_page(servers[name][1], "/metrics")[1]) == {"rate": 1}:
                     # What isn't cut soon behind the first isn't cut for its rate.
                     cut_after[name], ends = time.monotonic() - begun, min(ends, time.monotonic() + 8)
             time.sleep(0.1)
@@ -372,7 +344,7 @@ def slow_link(port):
     link.setsockopt(socket.SOL_SOCKET, socket.SO_RCVBUF, 4096)
     link.settimeout(20)
     link.connect(("127.0.0.1", port))
-    link.sendall(f"GET {SAMPLE_TARGET} HTTP/1.1\r\nHost: localhost\r\n\r\n".encode())
+    link.sendall(encode_request(SAMPLE_TARGET))
     link.setblocking(False)
     return link
 
@@ -396,23 +368,16 @@ def the_second_connection_of_an_address_is_refused_by_per_address(program, room)
         statistics = free_port()
         with Server(program, ["a=:sample"], ["--stats-listen", f"127.0.0.1:{statistics}", *words]) as server:
             # Until the connection by which the server was found has left its place, and one more.
-            wait_until(lambda: asked(server.port, SAMPLE_TARGET)[0] == 200)
-            wait_until(lambda: 'iiif_connections_open{listener="viewers"} 0\n' in page(statistics, "/metrics")[1])
-            with connected(server.port) as first:
+            wait_until(lambda: ask(server.port, SAMPLE_TARGET)[0] == 200)
+            wait_until(lambda: 'iiif_connections_open{listener="viewers"} 0\n' in read_page(statistics, "/metrics")[1])
+            with connect(server.port) as first:
                 first.sendall(f"GET {SAMPLE_TARGET} HTTP/1.1\r\n".encode())
-                wait_until(lambda: 'iiif_connections_open{listener="viewers"} 1\n' in page(statistics, "/metrics")[1])
-                second = asked(server.port, SAMPLE_TARGET)
+                wait_until(lambda: 'iiif_connections_open{listener="viewers"} 1\n' in read_page(statistics, "/metrics")[1])
+                second = ask(server.port, SAMPLE_TARGET)
                 first.sendall(b"Host: localhost\r\nConnection: close\r\n\r\n")
-                served = to_the_end(first)[0].endswith(sample_file())
+                served = read_to_end(first)[0].endswith(sample_file())
         got.append((second, served))
     return got, [((None, b""), True), ((200, sample_file()), True)], command(program, "--per-address", 1, "a=:sample")
-
-
-def wait_until(is_so, seconds=60):
-    """Waits until something is so; gives up after some seconds, so that what is judged next says what is."""
-    ends = time.monotonic() + seconds
-    while not is_so() and time.monotonic() < ends:
-        time.sleep(0.02)
 
 
 @shows("--log")
@@ -423,11 +388,9 @@ def log_writes_a_line_for_each_answer(program, room):
     got = []
     for words in (["--log"], []):
         with Server(program, ["a=:sample"], words) as server:
-            asked(server.port, SAMPLE_TARGET)
+            ask(server.port, SAMPLE_TARGET)
             wait_until(lambda: server.line(), 60 if words else 1)
-            server.said.seek(0)
-            text = server.said.read().decode()
-            got.append(bool(re.fullmatch(line, text)) or text)
+            got.append(bool(re.fullmatch(line, server.text())) or server.text())
     return got, [True, ""], command(program, "--log", "a=:sample")
 
 
@@ -455,7 +418,7 @@ def record_of(program, path, words):
     """The lines of the record of a server that was asked for one image twice; none where there is no record."""
     with Server(program, ["a=:sample"], words) as server:
         for _ in range(2):
-            asked(server.port, SAMPLE_TARGET)
+            ask(server.port, SAMPLE_TARGET)
         # The lines before an answer's end are written before that.
         if not os.path.exists(path):
             return []
@@ -494,7 +457,7 @@ def a_folder_is_read_at_the_start_alone(program, room):
     words = ["--edge", 2, "--folder", folder]
     with Server(program, [], words) as server:
         os.rename(f"{folder}/a.tif", f"{folder}/b.tif")
-        got = [asked(server.port, f"/iiif/{it}/full/max/0/default.tif") for it in ("a", "b")]
+        got = [ask(server.port, f"/iiif/{it}/full/max/0/default.tif") for it in ("a", "b")]
     return got, [(200, sample_file()), (404, b"Q4 identifier\n")], command(program, "--edge", 2, "--folder", "folder")
 
 
@@ -506,9 +469,9 @@ def images_that_are_left_out_are_told_and_counted(program, room):
         words = ["--folder", f"{room}/folder_with_a_file_at_fault", "--stats-listen", f"127.0.0.1:{statistics}", *words]
         try:
             with Server(program, [], words) as server:
-                text = page(statistics, "/metrics")[1]
+                text = read_page(statistics, "/metrics")[1]
                 got.append([counter(text, it) for it in ("iiif_images", "iiif_images_unfit")])
-                got.append([asked(server.port, f"/iiif/{it}/full/max/0/default.tif")[0] for it in ("good", "bad")])
+                got.append([ask(server.port, f"/iiif/{it}/full/max/0/default.tif")[0] for it in ("good", "bad")])
                 got.append(server.line().splitlines()[0])
         except Refused:
             got.append("refused")
@@ -520,15 +483,15 @@ def stats_listen_answers_metrics_and_health(program, room):
     statistics = free_port()
     words = ["--stats-listen", f"127.0.0.1:{statistics}"]
     with Server(program, ["a=:sample"], words) as server:
-        asked(server.port, SAMPLE_TARGET)
-        wait_until(lambda: 'iiif_answers_total{status="200"} 1\n' in page(statistics, "/metrics")[1])
-        told = 'iiif_answers_total{status="200"} 1\n' in page(statistics, "/metrics")[1]
-        asked(server.port, "/iiif/a/info.json")
-        asked(server.port, "/iiif/b/info.json")
+        ask(server.port, SAMPLE_TARGET)
+        wait_until(lambda: 'iiif_answers_total{status="200"} 1\n' in read_page(statistics, "/metrics")[1])
+        told = 'iiif_answers_total{status="200"} 1\n' in read_page(statistics, "/metrics")[1]
+        ask(server.port, "/iiif/a/info.json")
+        ask(server.port, "/iiif/b/info.json")
         counts = {f'iiif_answer_seconds_count{{kind="{it}"}} 1\n' for it in ("image", "info", "other")}
-        wait_until(lambda: all(it in page(statistics, "/metrics")[1] for it in counts))
-        told = told and all(it in page(statistics, "/metrics")[1] for it in counts)
-        got = [told, page(statistics, "/health"), asked(server.port, "/health")]
+        wait_until(lambda: all(it in read_page(statistics, "/metrics")[1] for it in counts))
+        told = told and all(it in read_page(statistics, "/metrics")[1] for it in counts)
+        got = [told, read_page(statistics, "/health"), ask(server.port, "/health")]
     with Server(program, ["a=:sample"]):
         got.append(is_listening(statistics))
     return got, [True, (200, "viewers ok\nstatistics ok\n"), (400, b"Q3 path\n"), False], command(program, *words, "a=:sample")
@@ -537,7 +500,7 @@ def stats_listen_answers_metrics_and_health(program, room):
 def is_listening(port):
     """Tells whether someone listens at a port."""
     try:
-        connected(port, 5).close()
+        connect(port, 5).close()
         return True
     except ConnectionRefusedError:
         return False
@@ -551,7 +514,7 @@ def replied(port, source=None, name="a", length=None):
         try:
             with socket.create_connection(("127.0.0.1", port), 60, (source, 0) if source else None) as link:
                 link.sendall(ask)
-                return exactly(link, length or len(reply()))
+                return read_exactly(link, length or len(reply()))
         except ConnectionRefusedError:
             time.sleep(0.02)
         except (ConnectionResetError, BrokenPipeError):
@@ -599,7 +562,7 @@ def an_ask_has_the_version_of_the_file_behind_its_name(program, room):
         with Server(program, ["a=:sample"], words):
             got.append([replied(peers, None, it, len(reply(it, "b"))) == reply(it, "b") for it in ("a", named, other)])
             got.append(replied(peers, None, named, len(reply(named, named))) == reply(named, named))
-            got.append(counter(page(statistics, "/metrics")[1], "iiif_images_other_versions_total"))
+            got.append(counter(read_page(statistics, "/metrics")[1], "iiif_images_other_versions_total"))
     return got, [[True, False, True], True, 1, [False, True, True], False, 0], command(program, *words, "--peer-versions", "a=:sample")
 
 
@@ -609,8 +572,8 @@ def a_node_whose_peer_lies_nowhere_answers_and_says_so(program, room):
     for words in (["--peer", f"other85=127.0.0.1:{free_port()}"], []):
         statistics = free_port()
         with Server(program, ["a=:sample"], ["--edge", 2, "--stats-listen", f"127.0.0.1:{statistics}", *words]) as server:
-            status = asked(server.port, LAST_TILE)[0]
-            text = page(statistics, "/metrics")[1]
+            status = ask(server.port, LAST_TILE)[0]
+            text = read_page(statistics, "/metrics")[1]
             got.append((status, 'iiif_peer_asks_total{peer="other85",outcome="failed"} 1\n' in text))
     return got, [(200, True), (200, False)], command(program, "--edge", 2, "--peer", "other85=127.0.0.1:1", "a=:sample")
 
@@ -619,7 +582,7 @@ def a_node_whose_peer_lies_nowhere_answers_and_says_so(program, room):
 def a_server_needs_an_image(program, room):
     try:
         with Server(program, []) as server:
-            got = asked(server.port, SAMPLE_TARGET)
+            got = ask(server.port, SAMPLE_TARGET)
     except Refused as refused:
         got = (refused.args[0], refused.args[1].splitlines()[0])
     return got, (2, "line: image"), command(program)
@@ -633,6 +596,6 @@ def a_server_warns_of_a_name_of_two_dots_alone_and_answers_it(program, room):
     for name, wanted in (("..", warning), ("a", "")):
         with Server(program, [f"{name}=:sample"]) as server:
             wait_until(lambda: server.line(), 60 if wanted else 1)
-            got.append((server.line(), asked(server.port, f"/iiif/{name}/full/max/0/default.tif")))
+            got.append((server.line(), ask(server.port, f"/iiif/{name}/full/max/0/default.tif")))
     answer = (200, sample_file())
     return got, [(warning, answer), ("", answer)], command(program, "..=:sample")

@@ -9,12 +9,9 @@ Each run has small caches and a small edge, so that what is kept changes often. 
 where one isn't), else 1.
 """
 import argparse
-import http.client
 import os
 import random
 import shutil
-import socket
-import struct
 import subprocess
 import sys
 import tempfile
@@ -22,6 +19,10 @@ import threading
 import time
 
 HERE = os.path.dirname(os.path.abspath(__file__))
+sys.path.insert(0, os.path.join(HERE, ".."))
+from lib import tiff  # noqa: E402
+from lib.server import Server, ask, connect, encode_request, free_port, reset  # noqa: E402
+
 JUDGE = os.path.join(HERE, "..", "..", "packaging", "iiif-judge")
 WIDTH, HEIGHT = 64, 48
 TARGETS = ["full/max", "0,0,40,32/max", "12,10,40,30/max", "full/30,", "full/20,15", "8,4,48,40/21,", "full/9,", "square/max",
@@ -29,34 +30,6 @@ TARGETS = ["full/max", "0,0,40,32/max", "12,10,40,30/max", "full/30,", "full/20,
 # What no image is, or none that is served, and what is no call.
 HOSTILE = ["/iiif/p/full/max/0/default.jpg", "/iiif/p/0,0,0,0/max/0/default.tif", "/iiif/p/full/^99999,/0/default.tif", "/iiif/none/full/max/0/default.tif",
            "/iiif/p/%/max/0/default.tif", "/iiif/p/full/max/45/default.tif", "/", "/iiif/p/info.json", "/iiif/p/99,99,1,1/max/0/default.tif"]
-
-
-def tiff(width, height, samples):
-    """An RGB image of 8 bits in strips of 16 rows."""
-    strips = [samples[i * width * 48:(i + 1) * width * 48] for i in range(-(-height // 16))]
-    out = bytearray(b"II*\0\0\0\0\0")
-    places = []
-    for strip in strips:
-        places.append(len(out))
-        out += strip
-    out += b"\0" * (len(out) % 2)
-    bits, at = len(out), len(out) + 6
-    out += struct.pack("<3H", 8, 8, 8) + struct.pack("<%dI" % len(strips), *places)
-    out += struct.pack("<%dI" % len(strips), *map(len, strips))
-    tags = [(256, 4, 1, width), (257, 4, 1, height), (258, 3, 3, bits), (259, 3, 1, 1), (262, 3, 1, 2), (273, 4, len(strips), at),
-            (277, 3, 1, 3), (278, 4, 1, 16), (279, 4, len(strips), at + 4 * len(strips)), (284, 3, 1, 1)]
-    out[4:8] = struct.pack("<I", len(out))
-    out += struct.pack("<H", len(tags))
-    for tag, kind, count, value in tags:
-        out += struct.pack("<HHI", tag, kind, count)
-        out += struct.pack("<HH", value, 0) if kind == 3 and count == 1 else struct.pack("<I", value)
-    return bytes(out + struct.pack("<I", 0))
-
-
-def free_port():
-    with socket.socket() as taken:
-        taken.bind(("127.0.0.1", 0))
-        return taken.getsockname()[1]
 
 
 class Nodes:
@@ -68,46 +41,31 @@ class Nodes:
         self.running = [None] * len(names)
         self.records = []
         self.picture = os.path.join(room, "p.tif")
+        samples, strip = random.Random(1).randbytes(WIDTH * HEIGHT * 3), WIDTH * 16 * 3
+        pieces = [samples[at:at + strip] for at in range(0, len(samples), strip)]
         with open(self.picture, "wb") as file:
-            file.write(tiff(WIDTH, HEIGHT, random.Random(1).randbytes(WIDTH * HEIGHT * 3)))
+            file.write(tiff.encode_pieces(WIDTH, HEIGHT, pieces, channels=3, strip=16))
 
     def start(self, node):
         record = os.path.join(self.room, "%s.%d" % (self.names[node], len(self.records)))
-        words = [self.serve, "--base", "http://localhost/iiif", "--listen", "127.0.0.1:%d" % self.ports[node][0], "--edge", "8", "--cache-bytes", "2600",
-                 "--workers", str(self.workers), "--band", "16", "--record", record]
+        words = ["--edge", 8, "--cache-bytes", 2600, "--workers", self.workers, "--band", 16, "--record", record]
         if len(self.names) > 1:
             words += ["--name", self.names[node], "--peer-listen", "127.0.0.1:%d" % self.ports[node][1]]
             for other, name in enumerate(self.names):
                 if other != node:
                     words += ["--peer", "%s=127.0.0.1:%d" % (name, self.ports[other][1])]
-        with open(os.path.join(self.room, "said"), "ab") as said:
-            self.running[node] = subprocess.Popen(words + ["p=" + self.picture], stdout=said, stderr=said)
         self.records.append(record)
-        for _ in range(600):
-            if self.running[node].poll() is not None:
-                with open(os.path.join(self.room, "said"), encoding="utf-8") as said:
-                    sys.exit("it ended: " + said.read())
-            try:
-                socket.create_connection(("127.0.0.1", self.ports[node][0]), timeout=5).close()
-                return
-            except OSError:
-                time.sleep(0.1)
-        sys.exit("it doesn't listen")
+        self.running[node] = Server(self.serve, ["p=" + self.picture], words, port=self.ports[node][0])
 
     def kill(self, node):
-        self.running[node].kill()
-        self.running[node].wait()
+        self.running[node].stop()
         self.running[node] = None
 
     def get(self, node, target):
         try:
-            connection = http.client.HTTPConnection("127.0.0.1", self.ports[node][0], timeout=60)
-            connection.request("GET", target)
-            answer = connection.getresponse()
-            answer.read()
-            return answer.status
-        except (OSError, http.client.HTTPException):
-            return 0
+            return ask(self.ports[node][0], target)[0]
+        except OSError:
+            return None
 
     def crowd(self, count, each, seed=5, hostile=False, nodes=None):
         """Begins so many clients, each of which asks so often."""
@@ -129,11 +87,10 @@ class Nodes:
         chance = random.Random(seed)
         for _ in range(5):
             try:
-                viewer = socket.create_connection(("127.0.0.1", self.ports[0][0]))
-                viewer.setsockopt(socket.SOL_SOCKET, socket.SO_LINGER, struct.pack("ii", 1, 0))
-                viewer.sendall(("GET /iiif/p/%s/0/default.tif HTTP/1.1\r\nHost: x\r\n\r\n" % chance.choice(TARGETS)).encode())
+                viewer = connect(self.ports[0][0])
+                viewer.sendall(encode_request("/iiif/p/%s/0/default.tif" % chance.choice(TARGETS)))
                 time.sleep(0.05 * chance.random())
-                viewer.close()
+                reset(viewer)
             except OSError:
                 pass
 

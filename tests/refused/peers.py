@@ -81,8 +81,8 @@ class Crossed:
     def started(self, refusing):
         """Both nodes, of which one is under the control."""
         self.control.refuse(0)
-        servers, ports = running.started(lambda: self.pair(refusing))
-        running.exchanged(servers[refusing], [b"GET / HTTP/1.1\r\n\r\n"])
+        servers, ports = running.start(lambda: self.pair(refusing))
+        servers[refusing].exchange([b"GET / HTTP/1.1\r\n\r\n"])
         return servers, ports
 
     def run(self, refusing, once, tried):
@@ -139,11 +139,11 @@ def asks_tried(crossed):
 
     def tried(servers, ports, n):
         crossed.control.refuse(n)
-        got, ended = running.sent_to(ports["a"], [text])
+        got, ended = running.exchange(ports["a"], [text])
         met = crossed.control.refused()
         crossed.control.refuse(0)
         kind = replies_kind(asks, own, got) if ended else None
-        again, _ = running.sent_to(ports["a"], [text])
+        again, _ = running.exchange(ports["a"], [text])
         wrong = [] if kind else [f"growth {n}: {got[:200].hex()}, {'' if ended else 'not '}closed"]
         if again != b"".join(own):
             wrong.append(f"growth {n}, asked again: {again[:200].hex()}")
@@ -189,8 +189,8 @@ class Lie(socketserver.BaseRequestHandler):
     """A connection of a node that lies: one ask, one false reply, and the end."""
 
     def handle(self):
-        head = running.exactly(self.request, 9)
-        key = running.exactly(self.request, int.from_bytes(head[5:9], "big")) if len(head) == 9 else b""
+        head = running.read_exactly(self.request, 9)
+        key = running.read_exactly(self.request, int.from_bytes(head[5:9], "big")) if len(head) == 9 else b""
         if not key:
             return
         try:
@@ -228,7 +228,7 @@ class Misled(Node):
     def tried(self, server, calls, n):
         met, kind, wrong = super().tried(server, calls, n)
         if self.stats and server.alive():
-            told = running.counters(self.stats)
+            told = running.read_counters(self.stats)
             names = ("iiif_tile_cache_peer_total", "iiif_sum_cache_peer_total")
             wrong += [f"growth {n}: {told[name]} {name}" for name in names if told[name]]
         return met, kind, wrong

@@ -1,6 +1,5 @@
 """A start by `--one`, of which growths of memory are refused one by one, and what may come of it."""
 import os
-import subprocess
 
 from parts import Part
 from streams import count, files, running, tiff
@@ -51,9 +50,7 @@ def part_of(program, name, data, target):
 
 def one(program, env, words, path, options=()):
     """The status of a start, and what it wrote to its two outputs."""
-    line = [program, "--base", running.BASE, "--edge", "2", *map(str, options), "--one", words, "a=" + path]
-    done = subprocess.run(line, capture_output=True, env=env, timeout=60)
-    return done.returncode, done.stdout, done.stderr
+    return running.run(program, ["--base", running.BASE, "--edge", "2", *map(str, options), "--one", words, "a=" + path], env=env)
 
 
 def start_kind(own, got):

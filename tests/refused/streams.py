@@ -6,12 +6,13 @@ import subprocess
 import sys
 
 HERE = os.path.dirname(os.path.abspath(__file__))
-sys.path.insert(0, os.path.join(HERE, "..", "hostile"))
+TESTS = os.path.join(HERE, "..")
+sys.path[:0] = [TESTS, os.path.join(TESTS, "hostile")]
 from parts import Part  # noqa: E402
 import files  # noqa: E402
 import images  # noqa: E402
-import program as running  # noqa: E402
 import tiff  # noqa: E402
+from lib import server as running  # noqa: E402
 
 MOST = 20_000
 
@@ -95,7 +96,7 @@ def stream_kind(calls, own, got):
 def book_faults(port):
     """What isn't as it has to be in a program's books once nothing is under way: each call met a value, joined a load or began one, and
     each load that began has ended."""
-    told, found = running.counters(port), []
+    told, found = running.read_counters(port), []
     for front in ("iiif_tile_cache_", "iiif_sum_cache_"):
         gets, hits, joins, leads, landed = (told[f"{front}{name}_total"] for name in ("gets", "hits", "joins", "leads", "landed"))
         if gets != hits + joins + leads or leads != landed:
@@ -114,18 +115,16 @@ class Node:
     def started(self):
         """A server with a port of its own for counters."""
         self.stats = running.free_port()
-        options = [*self.options, "--stats-listen", f"127.0.0.1:{self.stats}"]
-        return running.Server(self.program, ["a=" + self.path], options, self.control.env)
+        return running.Server(self.program, ["a=" + self.path], self.options, self.control.env, statistics=self.stats)
 
     def start(self):
         self.control.refuse(0)
-        server = running.started(self.started)
-        running.wait_for(self.stats)
+        server = running.start(self.started)
         self.sent(server, [(b"GET", b"/")])
         return server
 
     def sent(self, server, calls):
-        return running.exchanged(server, [b"".join(b"%s %s HTTP/1.1\r\nHost: localhost\r\n\r\n" % call for call in calls)])
+        return server.exchange([b"".join(b"%s %s HTTP/1.1\r\nHost: localhost\r\n\r\n" % call for call in calls)])
 
     def tried(self, server, calls, n):
         """The n-th growth refused, and then the same again: whether one was refused, what came, and what is wrong."""

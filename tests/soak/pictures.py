@@ -5,14 +5,15 @@ square within a tile is that of the half tile, and the number. The file is writt
 """
 import os
 import random
-import struct
 import sys
 
-sys.path.insert(0, os.path.join(os.path.dirname(os.path.abspath(__file__)), "..", "hostile"))
+TESTS = os.path.join(os.path.dirname(os.path.abspath(__file__)), "..")
+sys.path[:0] = [TESTS, os.path.join(TESTS, "hostile")]
 import images  # noqa: E402
+from lib import tiff  # noqa: E402
+from lib.server import BASE  # noqa: E402
 
 EDGE = 256
-BASE = "http://localhost/iiif"
 
 
 class Picture:
@@ -31,17 +32,9 @@ class Picture:
 
     def write(self, path):
         """The file: tiles of 256 by 256, low byte first."""
-        count = self.across ** 2
-        lists = 8 + count * EDGE * EDGE
-        entries = [(256, 4, 1, self.side), (257, 4, 1, self.side), (258, 3, 1, 8), (262, 3, 1, 1), (277, 3, 1, 1), (322, 4, 1, EDGE), (323, 4, 1, EDGE),
-                   (324, 4, count, lists), (325, 4, count, lists + 4 * count)]
+        tiles = (self.half.translate(self.raised[more]) for row in self.own for more in row)
         with open(path, "wb") as out:
-            out.write(struct.pack("<2sHI", b"II", 42, lists + 8 * count))
-            for row in self.own:
-                for more in row:
-                    out.write(self.half.translate(self.raised[more]))
-            out.write(struct.pack(f"<{count}I", *(8 + n * EDGE * EDGE for n in range(count))) + struct.pack("<I", EDGE * EDGE) * count)
-            out.write(struct.pack("<H", len(entries)) + b"".join(struct.pack("<HHII", *it) for it in entries) + bytes(4))
+            tiff.write_pieces(out, self.side, self.side, tiles, tile=EDGE)
 
     def averaged(self, step):
         """The half tile's averages over squares of this step, to the nearest, a half up."""
@@ -72,19 +65,12 @@ class Picture:
         region = "full" if side == self.side else f"{i * side},{j * side},{side},{side}"
         words = f"{region}/{size}/{90 * quarters}/{quality}.tif"
         strip = b"".join(packed(row) for row in rows) if bits else b"".join(rows)
+        file = tiff.Answer(EDGE, EDGE, 1, 1 if bits else 8, strip).encode()
         link = f'<{BASE}/{name}/{words}>;rel="canonical"'
-        return f"/iiif/{name}/{words}", images.whole(200, "image/tiff", ("Link", link), tile_file(strip, bits), False)
+        return f"/iiif/{name}/{words}", images.whole(200, "image/tiff", ("Link", link), file, False)
 
 
 def packed(row):
     """A row of samples as bits, white from 128 on."""
     text = row.translate(bytes(48 if byte < 128 else 49 for byte in range(256))).decode()
     return int(text, 2).to_bytes(len(text) // 8, "big")
-
-
-def tile_file(strip, bits):
-    """The TIFF file of a tile of 256 by 256, gray or in bits."""
-    entries = [(256, 4, 1, EDGE), (257, 4, 1, EDGE), (258, 3, 1, 1 if bits else 8), (259, 3, 1, 1), (262, 3, 1, 1), (273, 4, 1, 174), (277, 3, 1, 1),
-               (278, 4, 1, EDGE), (279, 4, 1, len(strip)), (282, 5, 1, 158), (283, 5, 1, 166), (296, 3, 1, 1)]
-    directory = struct.pack("<H", 12) + b"".join(struct.pack("<HHII", *it) for it in entries) + bytes(4)
-    return b"II*\0\x08\0\0\0" + directory + struct.pack("<4I", 1, 1, 1, 1) + strip

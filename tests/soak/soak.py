@@ -28,8 +28,8 @@ import time
 
 import pictures
 
-sys.path.insert(0, os.path.join(os.path.dirname(os.path.abspath(__file__)), "..", "hostile"))
-import program as running  # noqa: E402
+sys.path.insert(0, os.path.join(os.path.dirname(os.path.abspath(__file__)), ".."))
+from lib import server as running  # noqa: E402
 
 
 class Soak:
@@ -287,7 +287,7 @@ def main():
         path = os.path.join(room, "big.tif")
         picture.write(path)
         words, peer, options = ["big=" + path], None, args.options.split()
-        if "--peer-listen" in running.options_of(args.program):
+        if "--peer-listen" in running.list_options(args.program):
             ports = {"a": running.free_port(), "b": running.free_port()}
             peer, options = Peer(args, words, ports), node_options(args, "a", "b", ports)
         try:

@@ -1,9 +1,13 @@
 """Attacks by whom many places are held: each runs against a server of its own for so many seconds, while others ask once a second."""
-import socket
+import os
+import sys
 import threading
 import time
 
-from places import Server, answered, asked_once, connected, get, picture
+from places import asked_once
+
+sys.path.insert(0, os.path.join(os.path.dirname(os.path.abspath(__file__)), ".."))
+from lib.server import Server, connect, encode_request  # noqa: E402
 
 PLACES = 64
 # Where the crowd comes from. Others come from 127.0.0.1.
@@ -38,7 +42,7 @@ def keep_up(server, over, act, buffer=None, source=CROWD):
     """Connects and acts, and connects anew where the connection is closed."""
     while not over.is_set():
         try:
-            with connected(server.port, 5, buffer, source) as link:
+            with connect(server.port, 5, buffer, source) as link:
                 act(link, over)
         except OSError:
             pass
@@ -47,7 +51,7 @@ def keep_up(server, over, act, buffer=None, source=CROWD):
 
 def read_slowly(link, over):
     """Takes 230 bytes a second of an answer of 50 MB."""
-    link.sendall(get(LARGE))
+    link.sendall(encode_request(LARGE))
     while not over.wait(1):
         if not link.recv(230):
             return
@@ -55,7 +59,7 @@ def read_slowly(link, over):
 
 def read_below_the_limit(link, over):
     """Takes 6,000 bytes a second of an answer of 50 MB."""
-    link.sendall(get(LARGE))
+    link.sendall(encode_request(LARGE))
     if link.recv(1):
         over.begun.release()
     while not over.wait(0.2):
@@ -76,7 +80,7 @@ def stay_idle(link, over):
 def ask_now_and_then(link, over):
     """A HEAD each 4.5 seconds."""
     while not over.is_set():
-        link.sendall(get(SMALL, "HEAD"))
+        link.sendall(encode_request(SMALL, "HEAD"))
         if not link.recv(65536):
             return
         over.wait(4.5)
@@ -118,7 +122,7 @@ def crowd(program, room, act, seconds, buffer=None, options=(), sources=(CROWD,)
 def held_by_drips(server):
     """How long a connection lasts whose head comes in single bytes, one each 150 ms."""
     begun = time.monotonic()
-    with connected(server.port, 30) as link:
+    with connect(server.port, 30) as link:
         link.setblocking(False)
         while time.monotonic() - begun < 40:
             try:
@@ -140,8 +144,8 @@ def cut_after(server):
     time.sleep(0.5)
     before = server.threads()
     begun = time.monotonic()
-    with connected(server.port, 30, 2048) as link:
-        link.sendall(get(LARGE))
+    with connect(server.port, 30, 2048) as link:
+        link.sendall(encode_request(LARGE))
         time.sleep(1)
         while time.monotonic() - begun < 120 and server.threads() > before:
             link.recv(230)
@@ -152,8 +156,8 @@ def cut_after(server):
 def fast_enough(server):
     """Whether one who takes 20 kB a second of an answer is still served after 75 seconds."""
     begun = time.monotonic()
-    with connected(server.port, 30, 4096) as link:
-        link.sendall(get(LARGE))
+    with connect(server.port, 30, 4096) as link:
+        link.sendall(encode_request(LARGE))
         while time.monotonic() - begun < 75:
             try:
                 if not link.recv(2000):

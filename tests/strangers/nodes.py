@@ -1,12 +1,18 @@
 """Attacks on and by other nodes."""
+import os
 import random
 import signal
 import socket
 import struct
+import sys
 import threading
 import time
 
-from places import Peak, Server, answered, connected, free_ports, get
+from places import Peak, is_answered
+
+sys.path.insert(0, os.path.join(os.path.dirname(os.path.abspath(__file__)), ".."))
+from hostile import wire  # noqa: E402
+from lib.server import Server, ask, connect, encode_request, free_port, free_ports  # noqa: E402
 
 SIDE, EDGE = 4096, 256
 
@@ -22,7 +28,7 @@ class Cluster:
         for name in names:
             words = [word for other in names if other != name for word in ("--peer", f"{other}=127.0.0.1:{peers[other]}")]
             words += ["--name", name, "--peer-listen", f"127.0.0.1:{peers[name]}", *options]
-            self.nodes[name] = Server(program, [f"p={room}/peers.tif"], words, listen[name])
+            self.nodes[name] = Server(program, [f"p={room}/peers.tif"], words, port=listen[name])
 
     def __enter__(self):
         return self
@@ -45,11 +51,11 @@ def view(port, ends, seed, times):
     chance = random.Random(seed)
     while time.monotonic() < ends:
         try:
-            with connected(port, 20) as link:
+            with connect(port, 20) as link:
                 while time.monotonic() < ends:
                     begun = time.monotonic()
-                    link.sendall(get(tile_target(chance)))
-                    if answered(link) != (200, True):
+                    link.sendall(encode_request(tile_target(chance)))
+                    if not is_answered(link):
                         break
                     times.append((begun, time.monotonic() - begun))
         except OSError:
@@ -84,9 +90,9 @@ def hung_beside_dead(program, room):
 def overview(server):
     """Seconds of an overview of 256 tiles."""
     begun = time.monotonic()
-    with connected(server.port, 120) as link:
-        link.sendall(get("/iiif/p/full/512,/0/default.tif"))
-        if answered(link) != (200, True):
+    with connect(server.port, 120) as link:
+        link.sendall(encode_request("/iiif/p/full/512,/0/default.tif"))
+        if not is_answered(link):
             return float("inf")
     return time.monotonic() - begun
 
@@ -117,13 +123,8 @@ def silent_beside_dead(program, room, options=()):
 
 def page(port, target):
     """The status and the body of what is told at a listener."""
-    told = b""
-    with connected(port) as link:
-        link.sendall(get(target))
-        while part := link.recv(65536):
-            told += part
-    head, body = told.split(b"\r\n\r\n", 1)
-    return int(head.split()[1]), body.decode()
+    status, body = ask(port, target, 10)
+    return status, body.decode()
 
 
 def told_of_hung(program, room):
@@ -136,22 +137,20 @@ def told_of_hung(program, room):
             overview(server)
             metrics, health = page(statistics, "/metrics"), page(statistics, "/health")
             time.sleep(0.5)
-            server.said.seek(0)
-            return metrics, health, server.said.read().decode()
+            return metrics, health, server.text()
 
 
 def sum_ask(level, width, height):
     """An ask for the sums of a whole picture in its own size."""
-    key = struct.pack(">H", 1) + b"p" + struct.pack(">7I", EDGE, 0, 0, width, height, width, height) + bytes([level]) + struct.pack(">2I", 0, 0)
-    return b"IGA1\x02" + struct.pack(">I", len(key)) + key
+    return wire.ask(1, 2, wire.sum_key(b"p", EDGE, (0, 0, width, height), (width, height), level, 0, 0))
 
 
 def one_ask(program, room, side=2890):
     """How far memory grows by one ask of level 20, and how long its value is."""
-    port = free_ports(1)[0]
+    port = free_port()
     options = ["--name", "a", "--peer-listen", f"127.0.0.1:{port}", "--cache-bytes", 0]
     with Server(program, [f"p={room}/peers.tif"], options) as server, Peak(server) as peak:
-        with connected(port, 100) as link:
+        with connect(port, 100) as link:
             link.sendall(sum_ask(20, side, side))
             while link.recv(1 << 20):
                 if peak.server.process.poll() is not None:
@@ -216,7 +215,7 @@ def grown_beside(program, room, port, asks):
 
 def announced(program, room, asks=12):
     """How far memory grows at a node whose peer announces 64 MiB for each tile, so many at once; and at one whose peer is dead."""
-    dead = grown_beside(program, room, free_ports(1)[0], asks)
+    dead = grown_beside(program, room, free_port(), asks)
     with socket.create_server(("127.0.0.1", 0)) as listener:
         over, sent = threading.Event(), []
         replying = threading.Thread(target=announce, args=(listener, over, sent), daemon=True)
@@ -229,7 +228,7 @@ def announced(program, room, asks=12):
 
 def is_replied(port):
     """Whether an ask for the sums of the sample is replied to, or refused in so many words."""
-    with connected(port, 2) as link:
+    with connect(port, 2) as link:
         link.sendall(sum_ask(0, 4, 4))
         return link.recv(4) == b"IGR1"
 
@@ -240,7 +239,7 @@ def is_healthy(port):
 
 def answered_beside_idle(program, listener):
     """How many of five others, one a second, are answered at a listener where 64 connections say nothing, and come again where they are closed."""
-    port = free_ports(1)[0]
+    port = free_port()
     with Server(program, ["p=:sample"], [listener, f"127.0.0.1:{port}"]):
         over = threading.Event()
         for _ in range(64):
@@ -261,7 +260,7 @@ def keep_idle(port, over):
     """A connection that says nothing, and comes again where it is closed."""
     while not over.is_set():
         try:
-            with connected(port, 5) as link:
+            with connect(port, 5) as link:
                 link.recv(1)
         except OSError:
             pass
@@ -273,12 +272,8 @@ def stranger(program):
     peers, statistics = free_ports(2)
     words = ["--peer-listen", f"127.0.0.1:{peers}", "--stats-listen", f"127.0.0.1:{statistics}", "--peer", "b=127.0.0.9:1", "--peer-only"]
     with Server(program, ["s=:sample"], words):
-        with connected(peers) as link:
+        with connect(peers, 10) as link:
             closed = link.recv(1) == b""
-        text = b""
-        with connected(statistics) as link:
-            link.sendall(get("/metrics"))
-            while part := link.recv(65536):
-                text += part
-    counted = next(line for line in text.decode().splitlines() if line.startswith('iiif_connections_refused_total{listener="peers"}'))
+        text = page(statistics, "/metrics")[1]
+    counted = next(line for line in text.splitlines() if line.startswith('iiif_connections_refused_total{listener="peers"}'))
     return closed, int(counted.split()[1])

@@ -2,46 +2,34 @@
 import os
 import random
 import subprocess
+import sys
 import threading
 import time
 
-from places import Server, connected, free_ports, get, picture
+sys.path.insert(0, os.path.join(os.path.dirname(os.path.abspath(__file__)), ".."))
+from lib import tiff  # noqa: E402
+from lib.server import Server, connect, encode_request, free_ports, read_answer, read_counters  # noqa: E402
 
 SIDE, EDGE, NAMES = 4096, 256, ("a", "b", "c")
 OLD, NEW = 40, 200
 TARGETS = [("full/512,", 512), ("0,0,2048,2048/512,", 512), ("512,1024,256,256/256,", 256), ("2048,0,2048,4096/256,", 256)]
 
 
-def body_of(link):
-    """The body of one answer. None where it isn't an image that came whole."""
-    told = b""
-    while b"\r\n\r\n" not in told:
-        part = link.recv(65536)
-        if not part:
-            return None
-        told += part
-    head, body = told.split(b"\r\n\r\n", 1)
-    length = next(int(line.split(b":")[1]) for line in head.split(b"\r\n") if line.lower().startswith(b"content-length:"))
-    while len(body) < length:
-        part = link.recv(1 << 20)
-        if not part:
-            return None
-        body += part
-    return body if head.split()[1] == b"200" else None
-
-
 def samples(port, region, width):
-    """The samples of one image, of which there are as many as the target says at the end of its body. None where none came."""
+    """The samples of one image: one, where it is that of the old or of the new file. None where no image came whole."""
     try:
-        with connected(port, 60) as link:
-            link.sendall(get(f"/iiif/p/{region}/0/default.tif"))
-            body = body_of(link)
+        with connect(port, 60) as link:
+            link.sendall(encode_request(f"/iiif/p/{region}/0/default.tif"))
+            status, body = read_answer(link)
     except OSError:
         return None
-    if body is None:
+    if status != 200 or body is None:
         return None
-    count = width * (2 * width if region.startswith("2048,0") else width)
-    return set(body[-count:])
+    height = 2 * width if region.startswith("2048,0") else width
+    for value in (OLD, NEW):
+        if body == tiff.Answer(width, height, 1, 8, bytes([value]) * (width * height)).encode():
+            return {value}
+    return set(body)
 
 
 class Ring:
@@ -53,7 +41,7 @@ class Ring:
         self.ports, self.peers, self.stats = (dict(zip(NAMES, ports[at::3])) for at in range(3))
         self.nodes = {}
         for value in (OLD, NEW):
-            picture(self.file(value), SIDE, SIDE, edge=EDGE, sample=value)
+            tiff.write_flat(self.file(value), SIDE, SIDE, edge=EDGE, sample=value)
             os.utime(self.file(value), ns=(value * 10 ** 9, value * 10 ** 9))
 
     def file(self, value):
@@ -72,7 +60,7 @@ class Ring:
         words = ["--name", name, "--peer-listen", f"127.0.0.1:{self.peers[name]}", "--stats-listen", f"127.0.0.1:{self.stats[name]}"]
         words += [word for other in NAMES if other != name for word in ("--peer", f"{other}=127.0.0.1:{self.peers[other]}")]
         words += ["--control", f"{self.room}/{name}.socket", "--images", self.list_file(name, value), "--log", *self.options]
-        self.nodes[name] = Server(self.program, [], words, self.ports[name])
+        self.nodes[name] = Server(self.program, [], words, port=self.ports[name])
 
     def restart(self, name, value):
         """Kills a node, and starts it over the file with these samples."""
@@ -95,24 +83,6 @@ class Ring:
     def __exit__(self, *_):
         for name in list(self.nodes):
             self.stop(name)
-
-
-def page(port, target):
-    """What is told at a listener of statistics, which may listen later than that of viewers."""
-    told, ends = b"", time.monotonic() + 60
-    while True:
-        try:
-            link = connected(port, 60)
-            break
-        except ConnectionRefusedError:
-            if time.monotonic() > ends:
-                raise
-            time.sleep(0.05)
-    with link:
-        link.sendall(get(target))
-        while part := link.recv(65536):
-            told += part
-    return told.split(b"\r\n\r\n", 1)[1].decode()
 
 
 def view(ring, seed, over, seen):
@@ -152,5 +122,4 @@ def renewed(program, room, options, renew):
 
 
 def other_versions(port):
-    lines = page(port, "/metrics").splitlines()
-    return next((int(line.split()[-1]) for line in lines if line.startswith("iiif_images_other_versions_total")), 0)
+    return read_counters(port).get("iiif_images_other_versions_total", 0)

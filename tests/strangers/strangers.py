@@ -18,7 +18,10 @@ import time
 import crowds
 import nodes
 import rolling
-from places import Server, asked_once, connected, get, picture, reset
+
+sys.path.insert(0, os.path.join(os.path.dirname(os.path.abspath(__file__)), ".."))
+from lib.server import Server, connect, encode_request, reset  # noqa: E402
+from lib.tiff import write_flat  # noqa: E402
 
 MIB = 2 ** 20
 
@@ -62,8 +65,8 @@ def gone(end, stay=0.0):
             time.sleep(0.5)
             links = []
             for place in range(64):
-                links.append(connected(server.port))
-                links[-1].sendall(get(f"/iiif/huge/{place},0,{20_000 - place},20000/64,/0/default.tif"))
+                links.append(connect(server.port, 10))
+                links[-1].sendall(encode_request(f"/iiif/huge/{place},0,{20_000 - place},20000/64,/0/default.tif"))
                 if not stay:
                     end(links[-1])
             if stay:
@@ -205,9 +208,9 @@ def told(name, attack, program, room, found):
 def main():
     program, chosen = os.path.abspath(sys.argv[1]), sys.argv[2:]
     with tempfile.TemporaryDirectory() as room:
-        picture(f"{room}/big.tif", 7000, 7000)
-        picture(f"{room}/peers.tif", nodes.SIDE, nodes.SIDE)
-        picture(f"{room}/huge.tif", 20_000, 20_000, channels=3)
+        write_flat(f"{room}/big.tif", 7000, 7000)
+        write_flat(f"{room}/peers.tif", nodes.SIDE, nodes.SIDE)
+        write_flat(f"{room}/huge.tif", 20_000, 20_000, channels=3)
         found = []
         for name, attack in ATTACKS.items():
             if not chosen or name in chosen:

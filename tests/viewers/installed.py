@@ -13,7 +13,6 @@ import collections
 import http.client
 import os
 import ssl
-import struct
 import sys
 import threading
 from urllib.parse import urlsplit
@@ -23,19 +22,16 @@ from browser import Browser
 from judge import Failed, Tried, same
 from leaflet import through_zooms
 
+sys.path.insert(0, os.path.join(os.path.dirname(os.path.abspath(__file__)), ".."))
+from lib import tiff  # noqa: E402
+
 EDGE = 256  # as the service has it
 SCANS = {"one": pictures.Picture(600, 400, 3, 8, False, 1), "two": pictures.Picture(520, 300, 1, 16, True, 2)}
 
 
 def wide(side=2048):
     """Gray in tiles of 256 that all stand at one place of the file, so that it is small and its overviews take long."""
-    count, tile = (side // 256) ** 2, bytes((x * 7 + y * 3) & 255 for y in range(256) for x in range(256))
-    lists = 8 + len(tile)
-    entries = [(256, 4, 1, side), (257, 4, 1, side), (258, 3, 1, 8), (262, 3, 1, 1), (277, 3, 1, 1), (322, 4, 1, 256), (323, 4, 1, 256),
-               (324, 4, count, lists), (325, 4, count, lists + 4 * count)]
-    data = tile + struct.pack(f"<{count}I", *[8] * count) + struct.pack(f"<{count}I", *[len(tile)] * count)
-    directory = struct.pack("<H", len(entries)) + b"".join(struct.pack("<HHII", *entry) for entry in entries) + bytes(4)
-    return struct.pack("<2sHI", b"II", 42, 8 + len(data)) + data + directory
+    return tiff.encode_repeated(side, side, bytes((x * 7 + y * 3) & 255 for y in range(256) for x in range(256)))
 
 
 def make(folder):

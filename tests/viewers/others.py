@@ -2,6 +2,7 @@
 import math
 import os
 import struct
+import sys
 
 import pictures
 from browser import Browser, unpacked
@@ -9,6 +10,9 @@ from judge import Failed, equal, said_of, same
 from leaflet import EDGE, LOADED, H, W, pressed
 from servers import Program
 from worker import WORDS, whole
+
+sys.path.insert(0, os.path.join(os.path.dirname(os.path.abspath(__file__)), ".."))
+from lib import tiff  # noqa: E402
 
 CALLED = "window.told = [!!navigator.serviceWorker.controller, ...told];"
 STAND_INS = {"openseadragon/openseadragon.js": f"window.OpenSeadragon = (...told) => {{ {CALLED} return {{ addHandler() {{}} }}; }};",
@@ -98,10 +102,7 @@ def scene(width, height):
 
     colors = [color(n / 100) for n in range(800)]
     data = b"".join(colors[int(116 * (across[x] + down[y] + slant[x + y] + 3.34))] for y in range(height) for x in range(width))
-    entries = [(256, 4, 1, width), (257, 4, 1, height), (258, 3, 3, 8 + len(data)), (262, 3, 1, 2), (273, 4, 1, 8), (277, 3, 1, 3),
-               (278, 4, 1, height), (279, 4, 1, len(data))]
-    directory = struct.pack("<H", len(entries)) + b"".join(struct.pack("<HHII", *entry) for entry in entries) + bytes(4)
-    return struct.pack("<2sHI", b"II", 42, 14 + len(data)) + data + struct.pack("<3H", 8, 8, 8) + directory
+    return tiff.encode_pieces(width, height, [data], channels=3, strip=height)
 
 
 def take_pictures(args, folder, pages):

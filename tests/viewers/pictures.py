@@ -6,9 +6,11 @@ worker or of the program's answer. A screen gets 8 bits: of samples of 16 bits t
 import importlib.util
 import os
 import random
-import struct
+import sys
 
 TOP = os.path.join(os.path.dirname(os.path.abspath(__file__)), "..", "..")
+sys.path.insert(0, os.path.join(TOP, "tests"))
+from lib import tiff  # noqa: E402
 
 
 def module_of(path):
@@ -41,7 +43,7 @@ class Picture:
 
     def file(self, order, tile=0, strip=16):
         """The picture as a file of tiles of this side, or of strips of so many rows."""
-        return EVALUATION.plain(self.rows, self.channels, self.bits, tile, strip, order, self.white)
+        return tiff.encode_rows(self.rows, self.channels, self.bits, tile, strip, order, self.white)
 
     def shown(self, x, y, w, h, width, height, quality="default"):
         """RGBA of a region in a size: what the screen gets of the exact answer."""
@@ -104,30 +106,19 @@ def layout(picture, order, strip, planes):
 
     def packed(row, channel):
         samples = [s for place in row for s in (place if channel is None else [place[channel]])]
-        if picture.bits > 1:
-            return struct.pack(f"{order}{len(samples)}{'B' if picture.bits == 8 else 'H'}", *samples)
-        text = "".join(map(str, samples)) + "1" * (-len(samples) % 8)
-        return bytes(int(text[at:at + 8], 2) for at in range(0, len(text), 8))
+        return tiff.pack_samples(samples, picture.bits, order, "1")
 
     pieces = [b"".join(packed(row, channel) for row in rows[y:y + strip]) for channel in apart for y in range(0, picture.height, strip)]
     data, places = b"odd", []
     for piece in pieces:
         places.append(8 + len(data))
         data += piece + b"gap"
+    data += bytes(len(data) % 2)
     color = 2 if picture.channels == 3 else 0 if picture.white else 1
-    fields = [(256, "H", [picture.width]), (257, "I", [picture.height]), (258, "H", [picture.bits] * picture.channels), (259, "H", [1]),
-              (262, "H", [color]), (273, "I", places), (277, "H", [picture.channels]), (278, "H", [strip]),
-              (279, "I", [len(piece) for piece in pieces]), (284, "H", [2 if planes else 1]), (305, "s", b"a text\0")]
-    entries = b""
-    for tag, kind, values in fields:
-        stored = values if kind == "s" else struct.pack(f"{order}{len(values)}{kind}", *values)
-        code = {"s": 2, "H": 3, "I": 4}[kind]
-        if len(stored) > 4:
-            data += b"\0" * (len(data) % 2)
-            value, data = struct.pack(f"{order}I", 8 + len(data)), data + stored
-        else:
-            value = stored.ljust(4, b"\0")
-        entries += struct.pack(f"{order}HHI", tag, code, len(values)) + value
-    data += b"\0" * (len(data) % 2)
-    directory = struct.pack(f"{order}H", len(fields)) + entries + bytes(4)
-    return struct.pack(f"{order}2sHI", b"II" if order == "<" else b"MM", 42, 8 + len(data)) + data + directory
+    fields = [(tiff.WIDTH, tiff.SHORT, [picture.width]), (tiff.HEIGHT, tiff.LONG, [picture.height]),
+              (tiff.BITS, tiff.SHORT, [picture.bits] * picture.channels), (tiff.COMPRESSION, tiff.SHORT, [1]), (tiff.PHOTOMETRIC, tiff.SHORT, [color]),
+              (tiff.STRIP_OFFSETS, tiff.LONG, places), (tiff.CHANNELS, tiff.SHORT, [picture.channels]), (tiff.STRIP_ROWS, tiff.SHORT, [strip]),
+              (tiff.STRIP_LENGTHS, tiff.LONG, list(map(len, pieces))), (tiff.PLANES, tiff.SHORT, [2 if planes else 1]),
+              (tiff.SOFTWARE, tiff.ASCII, b"a text\0")]
+    directory, outside = tiff.encode_directory(fields, 8 + len(data), order)
+    return tiff.encode_header(8 + len(data + outside), order) + data + outside + directory

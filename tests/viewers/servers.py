@@ -1,41 +1,26 @@
 """What the browser asks: the viewers' pages, the program, and a server that gives what the program wouldn't."""
 import http.server
 import os
-import subprocess
+import sys
 import threading
-import time
 
 from debian import library_file
-from pictures import TOP, module_of
+from pictures import TOP
 
-PROGRAM = module_of("tests/hostile/program.py")
+sys.path.insert(0, os.path.join(TOP, "tests"))
+from lib.server import Server, free_port  # noqa: E402
+
 TYPES = {".html": "text/html", ".js": "text/javascript", ".css": "text/css", ".png": "image/png"}
 HERE = os.path.dirname(os.path.abspath(__file__))
 
 
-class Program:
-    """The built program, serving these images, NAME=FILE each."""
+class Program(Server):
+    """The built program, serving these images, NAME=FILE each, at the base that a browser asks."""
 
     def __init__(self, program, images, edge):
-        self.port = PROGRAM.free_port()
-        self.base = f"http://localhost:{self.port}/iiif"
-        words = [program, "--base", self.base, "--listen", f"127.0.0.1:{self.port}", "--edge", str(edge), *images]
-        self.process = subprocess.Popen(words, stdin=subprocess.DEVNULL, stdout=subprocess.DEVNULL)
-        deadline = time.monotonic() + 20
-        while True:
-            if self.process.poll() is not None or time.monotonic() > deadline:
-                raise RuntimeError(f"the program doesn't listen: {self.process.poll()}")
-            try:
-                return PROGRAM.connected(self.port).close()
-            except ConnectionRefusedError:
-                time.sleep(0.01)
-
-    def __enter__(self):
-        return self
-
-    def __exit__(self, *_):
-        self.process.terminate()
-        self.process.wait()
+        port = free_port()
+        self.base = f"http://localhost:{port}/iiif"
+        super().__init__(program, images, ["--edge", edge], port=port, base=self.base)
 
 
 class Loopback:
@@ -56,7 +41,7 @@ class Loopback:
             def log_message(self, *_):
                 pass
 
-        self.server = http.server.ThreadingHTTPServer(("127.0.0.1", PROGRAM.free_port()), Handler)
+        self.server = http.server.ThreadingHTTPServer(("127.0.0.1", free_port()), Handler)
         self.server.daemon_threads = True
         self.port = self.server.server_address[1]
         threading.Thread(target=self.server.serve_forever, daemon=True).start()
