@@ -105,9 +105,9 @@ pub opened_answer : {R : Type 0} {d : _} (holds : List ℕ → List ℕ) (keeps 
     → settings ≡ settings_in options
     → IsCatalogueOf holds keeps (holding_in options) options.skip_unfit options.images.items items
     → (AllHeld items → (text : List ℕ) × Appends old new text × IsAnswerOfHeld (bytes_of holds) settings items target writer text result)
-    → AnswersOpened (bytes_of {R} {d} holds) holds keeps options target writer old new result
+    → AnswersOpened (bytes_of {R = R} {d = d} holds) holds keeps options target writer old new result
 opened_answer {R} {d} holds keeps options settings items target writer old new result same opened answered =
-    let answer : IsAnswerOfOpened (bytes_of {R} {d} holds) holds keeps options target writer old new result =
+    let answer : IsAnswerOfOpened (bytes_of {R = R} {d = d} holds) holds keeps options target writer old new result =
     record {
       items = items;
       opened = opened;
@@ -119,5 +119,5 @@ opened_answer {R} {d} holds keeps options settings items target writer old new r
 -- an end before anything was written
 pub never_begun : {R : Type 0} {d : _} (holds : List ℕ → List ℕ) (keeps : List ℕ → Type 0) (options : Options) (target : List ℕ)
     (writer : Type 0) (old new : Option (List ℕ)) (result : Result (Unit {0}) Stop) → IsErr result → new ≡ old
-    → AnswersOpened (bytes_of {R} {d} holds) holds keeps options target writer old new result
+    → AnswersOpened (bytes_of {R = R} {d = d} holds) holds keeps options target writer old new result
 never_begun holds keeps options target writer old new result failed same = inl (failed, same)
