@@ -403,11 +403,10 @@ def log_says_which_read_failed_where_and_why(program, room):
         words = ["--log", "--hold", hold, "--stats-listen", f"127.0.0.1:{statistics}"]
         with Server(program, ["a=" + path], words) as server:
             os.truncate(path, 100)
-            asked(server.port, SAMPLE_TARGET)
-            wait_until(lambda: server.line())
-            server.said.seek(0)
-            lines = [re.sub(r"^\S+Z ", "", it) for it in server.said.read().decode().splitlines()]
-            got.append(["\n".join(lines), counter(page(statistics, "/metrics")[1], "iiif_read_failures_total")])
+            ask(server.port, SAMPLE_TARGET)
+            wait_until(lambda: f" {SAMPLE_TARGET}" in server.text())
+            lines = [re.sub(r"^\S+Z ", "", it) for it in server.text().splitlines()]
+            got.append(["\n".join(lines), counter(read_page(statistics, "/metrics")[1], "iiif_read_failures_total")])
         answer = rf"GET 500 \d+ \d+ {re.escape(SAMPLE_TARGET)} L1 source" if hold == 0 else rf"GET 200 \d+ \d+ {re.escape(SAMPLE_TARGET)}"
         failed = f"read-failed {re.escape(path)} 174 shorter\n" if hold == 0 else ""
         got[-1][0] = bool(re.fullmatch(failed + answer, got[-1][0])) or got[-1][0]
